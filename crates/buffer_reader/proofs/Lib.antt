@@ -1,0 +1,5 @@
+pub mod Tails
+pub mod Fields
+pub mod Rooms
+pub mod Answers
+pub mod Unique

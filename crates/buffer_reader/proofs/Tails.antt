@@ -1,0 +1,62 @@
+-- The laws of a field, over its width: it is its bits, it is below 2 to its width, n bits then m bits are n + m bits, and it
+-- depends on the bits at its places alone. Assumes nothing.
+use Prim.Native.Nat.{ℕ, zero, suc, _+_, _-_, _*_, _/_, _%_, _^_, _≤_, _<_}
+use mathlib.Core.Path.{_≡_, refl, sym, ap, _∙_}
+use mathlib.Core.List.{List}
+use native.Mathlib.Omega.{arith}
+use native.Mathlib.Nat.{add-zero, zero-add, add-assoc, mul-assoc, pow-succ', two-pow-succ, one-mul, mod-lt, mod-one, div-one}
+use lib.Pow.{shr-shr, mod-pow-add}
+use Rattle.buffer_reader.specs.Tail.{tailBit, field}
+
+pub bit-lt : (f : List ℕ) (i : ℕ) → tailBit f i < 2
+bit-lt f i = omega arith
+
+pub field-none : (f : List ℕ) (i : ℕ) → field f i 0 ≡ 0
+unfolding field
+field-none f i = refl
+
+-- the first bit, then the rest
+pub field-more : (f : List ℕ) (i n : ℕ) → field f i (suc n) ≡ tailBit f i + 2 * field f (i + 1) n
+unfolding field
+field-more f i n = refl
+
+pub field-one : (f : List ℕ) (i : ℕ) → field f i 1 ≡ tailBit f i
+field-one f i = rw (field-more f i 0, field-none f (i + 1)) (omega arith)
+
+pub field-lt : (f : List ℕ) (i n : ℕ) → field f i n < 2 ^ n
+field-lt f i zero = rw field-none (omega arith)
+field-lt f i (suc n) = rw field-more (omega (arith, two-pow-succ n, field-lt f (i + 1) n, bit-lt f i))
+
+-- a field is its bits: the bit at place k of the number is the one at tail place i + k
+pub field-bit : (f : List ℕ) (i n k : ℕ) → k < n → field f i n / 2 ^ k % 2 ≡ tailBit f (i + k)
+field-bit f i zero k h = absurd (omega arith)
+field-bit f i (suc n) zero h = rw (field-more f i n, add-zero i) (omega (arith, bit-lt f i))
+field-bit f i (suc n) (suc k) h =
+    let half : field f i (suc n) / 2 ≡ field f (i + 1) n = omega (arith, field-more f i n, bit-lt f i) in
+    let at : i + 1 + k ≡ i + (1 + k) = omega arith in
+    let place : 1 + k ≡ suc k = omega arith in
+    rw (← place, ← shr-shr (field f i (suc n)) 1 k, half, ← at) (field-bit f (i + 1) n k (omega arith))
+
+-- n bits, then m bits
+pub field-add : (f : List ℕ) (i n m : ℕ) → field f i (n + m) ≡ field f i n + 2 ^ n * field f (i + n) m
+field-add f i zero m = rw (zero-add m, field-none f i, add-zero i, one-mul, zero-add) refl
+field-add f i (suc n) m =
+    let width : suc n + m ≡ suc (n + m) = omega arith in
+    let at : i + 1 + n ≡ i + suc n = omega arith in
+    let ih : field f (i + 1) (n + m) ≡ field f (i + 1) n + 2 ^ n * field f (i + suc n) m = rw at at (field-add f (i + 1) n m) in
+    let twice : 2 ^ suc n * field f (i + suc n) m ≡ 2 * (2 ^ n * field f (i + suc n) m) = rw (pow-succ' 2 n, mul-assoc) refl in
+    rw (width, field-more f i (n + m), field-more f i n, ih, twice) (omega arith)
+
+-- two frames that agree on the places of a field have the same field there
+pub field-agrees : (f g : List ℕ) (i n : ℕ) → ((k : ℕ) → k < n → tailBit f (i + k) ≡ tailBit g (i + k)) → field f i n ≡ field g i n
+field-agrees f g i zero same = rw (field-none f i, field-none g i) refl
+field-agrees f g i (suc n) same =
+    let first : tailBit f i ≡ tailBit g i = rw (add-zero i) at (same 0 (omega arith)) in
+    let rest : field f (i + 1) n ≡ field g (i + 1) n = field-agrees f g (i + 1) n (λ k h. rw (add-assoc i 1 k) (same (1 + k) (omega arith))) in
+    rw (field-more f i n, field-more g i n, first, rest) refl
+
+-- the number of a field's width that the higher bits leave
+pub cut-more : (m n : ℕ) → m % 2 ^ suc n ≡ m % 2 + 2 * (m / 2 % 2 ^ n)
+cut-more m n =
+    let width : suc n ≡ n + 1 = omega arith in
+    rw width (omega (arith, mod-pow-add m n 1))

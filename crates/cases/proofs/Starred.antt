@@ -1,0 +1,12 @@
+-- The one statement: in every row of the table the definitions give what document 01 states. It is computed.
+-- Assumes nothing.
+use mathlib.Core.Path.{_≡_, refl}
+use mathlib.Core.List.{List, map}
+use Prim.Native.Nat.{ℕ}
+use Rattle.common.specs.Tables.{total}
+use Rattle.common.specs.Flat.{tabulate}
+use Rattle.cases.specs.Starred.{Case, starred}
+
+pub all-as-stated : map (λ (c : Case). c .defined) starred ≡ map (λ (c : Case). c .stated) starred
+unfolding total tabulate
+all-as-stated = refl

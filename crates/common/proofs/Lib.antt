@@ -1,0 +1,7 @@
+pub mod Bools
+pub mod Configurations
+pub mod Rows
+pub mod Fills
+pub mod Sets
+pub mod Cumulatives
+pub mod Replies

@@ -1,0 +1,27 @@
+-- Document 01, "Configuration and table set", first paragraph: the limits of a configuration, and its encoded lines `ne`.
+use Prim.Native.Nat.{ℕ}
+use mathlib.Core.Bool.{Bool, true, false, not, _&&_}
+use mathlib.Core.List.{List, [], _∷_}
+use lib.Dec.{leb}
+use lib.ListN.{getD}
+use Rattle.common.specs.Reply.{Answer, accepted, refused, given, outsideLimits}
+use Rattle.common.specs.declared.configuration.Configuration.{Configuration}
+use Rattle.common.specs.declared.configuration.Lines.{Lines}
+use Rattle.common.specs.declared.configuration.Lines.the-variants.{Encoded, OutsideLimits}
+
+-- `fs_ind` 0..4; duration 0 (10 ms) or 1 (7.5 ms); reading 0 (crate) or 1 (standard)
+abbrev pub configurationPasses : Configuration → Bool
+configurationPasses c = leb (c .«fs_ind») 4 && leb (c .duration) 1 && leb (c .reading) 1
+
+-- `ne` by duration and `fs_ind`
+abbrev pub ne : ℕ → ℕ → ℕ
+ne duration fs =
+    getD (getD ((80 ∷ 160 ∷ 240 ∷ 320 ∷ 400 ∷ []) ∷ (60 ∷ 120 ∷ 180 ∷ 240 ∷ 300 ∷ []) ∷ []) duration []) fs 0
+
+-- the number of encoded lines, or refusal 1
+abbrev pub linesOf : Configuration → Answer ℕ
+linesOf c = given (not (configurationPasses c)) outsideLimits (accepted (ne (c .duration) (c .«fs_ind»)))
+
+abbrev pub replyOf : Lines → Answer ℕ
+replyOf (Encoded n) = accepted n
+replyOf OutsideLimits = refused outsideLimits

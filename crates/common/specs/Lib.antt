@@ -1,0 +1,4 @@
+pub mod Reply
+pub mod Configuration
+pub mod Tables
+pub mod Flat

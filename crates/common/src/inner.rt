@@ -1,0 +1,16 @@
+// What the crates of this repository use without the checks: each call states what it requires.
+ghost use mathlib.Core.Path.{_≡_};
+ghost use Prim.Native.Nat.{_≤_};
+ghost use Rattle.common.specs.Configuration as Configuration;
+
+// The number of encoded lines of a configuration that passes.
+pub fn ne(duration: usize, fs_ind: usize) -> usize
+    requires { ⌜ (duration ≤ 1) × («fs_ind» ≤ 4) ⌝ }
+    ensures { λ r. ⌜ r ≡ Configuration.ne duration «fs_ind» ⌝ }
+{
+    if duration == 0 {
+        (fs_ind + 1) * 80
+    } else {
+        (fs_ind + 1) * 60
+    }
+}

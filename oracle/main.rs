@@ -1,0 +1,44 @@
+// The comparison program: makes cases, runs the Rust of lc3-codec on them and writes each case with the Rust's answer.
+//   oracle MODULE SEED COUNT   the systematic cases and COUNT random ones, made from SEED
+//   oracle MODULE --sample     a small fixed set, the same on every machine
+
+mod cases {
+    pub mod buffer_reader;
+}
+mod lc3;
+mod records;
+
+use cases::buffer_reader;
+// the six files name these from the crate's root
+use lc3::{common, encoder, tables};
+use records::Records;
+
+struct Module {
+    name: &'static str,
+    run: fn(&mut Records, u64, usize),
+    sample: fn(&mut Records),
+}
+
+const MODULES: [Module; 1] = [Module { name: "buffer_reader", run: buffer_reader::run, sample: buffer_reader::sample }];
+
+fn main() {
+    records::quiet_panics();
+    let words: Vec<String> = std::env::args().skip(1).collect();
+    let module = MODULES.iter().find(|m| words.first().map_or(false, |w| w == m.name)).unwrap_or_else(|| usage());
+    let mut out = Records::to_stdout();
+    match &words[1..] {
+        [only] if only == "--sample" => (module.sample)(&mut out),
+        [seed, count] => match (seed.parse(), count.parse()) {
+            (Ok(seed), Ok(count)) => (module.run)(&mut out, seed, count),
+            _ => usage(),
+        },
+        _ => usage(),
+    }
+    out.finish(&words.join(" "));
+}
+
+fn usage() -> ! {
+    let names: Vec<&str> = MODULES.iter().map(|m| m.name).collect();
+    eprintln!("usage: oracle MODULE SEED COUNT | oracle MODULE --sample; MODULE is one of: {}", names.join(" "));
+    std::process::exit(2)
+}
