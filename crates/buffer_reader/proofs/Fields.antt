@@ -5,12 +5,12 @@ use mathlib.Core.Path.{_≡_, refl, sym, ap, _∙_}
 use mathlib.Core.List.{List}
 use native.Mathlib.Omega.{arith}
 use native.Mathlib.Decide.{decLt}
-use native.Mathlib.Nat.{mod-one, mul-assoc, mul-comm, pow-suc, add-mul-div-right, add-mul-mod-self-right}
+use native.Mathlib.Nat.{mod-one, mul-comm, add-comm}
 use lib.ListN.{length, getD}
-use lib.Pow.{pow-pos, pow-add, shr-shr, shl-shr}
+use lib.Pow.{shr-shr, shl-shr}
 use lib.Pow.{field as Pow·field}
 use Rattle.buffer_reader.specs.Tail.{tailByte, tailBit, field, tailNumber}
-use Rattle.buffer_reader.proofs.Tails.{field-none, field-more, cut-more}
+use Rattle.buffer_reader.proofs.Tails.{field-none, field-more, cut-more, bit-below}
 
 pub number-none : (f : List ℕ) (j : ℕ) → tailNumber f j 0 ≡ 0
 unfolding tailNumber
@@ -22,12 +22,7 @@ number-more f j k = refl
 
 -- a bit of the lowest byte of a number
 low-bit : (b r i : ℕ) → i < 8 → (b + 256 * r) / 2 ^ i % 2 ≡ b / 2 ^ i % 2
-low-bit b r i h =
-    let whole : 8 ≡ suc (7 - i) + i = omega arith in
-    let split : 256 ≡ 2 ^ suc (7 - i) * 2 ^ i = ap (λ (k : ℕ). 2 ^ k) whole ∙ pow-add 2 (suc (7 - i)) i in
-    let parts : 256 * r ≡ r * 2 ^ (7 - i) * 2 * 2 ^ i =
-    rw (split, pow-suc 2 (7 - i), mul-comm (2 ^ (7 - i) * 2 * 2 ^ i) r, ← mul-assoc r (2 ^ (7 - i) * 2) (2 ^ i), ← mul-assoc r (2 ^ (7 - i)) 2) refl in
-    rw (parts, add-mul-div-right b (r * 2 ^ (7 - i) * 2) (pow-pos i), add-mul-mod-self-right) refl
+low-bit b r i h = rw (add-comm b (256 * r), mul-comm 256 r) (bit-below r 8 b i h)
 
 module _ (f : List ℕ) (bytes : (i : ℕ) → getD f i 0 < 256) where
   -- bit i of the number of k bytes is the tail bit there

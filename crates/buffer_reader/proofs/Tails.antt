@@ -4,8 +4,8 @@ use Prim.Native.Nat.{ℕ, zero, suc, _+_, _-_, _*_, _/_, _%_, _^_, _≤_, _<_}
 use mathlib.Core.Path.{_≡_, refl, sym, ap, _∙_}
 use mathlib.Core.List.{List}
 use native.Mathlib.Omega.{arith}
-use native.Mathlib.Nat.{add-zero, zero-add, add-assoc, mul-assoc, pow-succ', two-pow-succ, one-mul, mod-lt, mod-one, div-one}
-use lib.Pow.{shr-shr, mod-pow-add}
+use native.Mathlib.Nat.{add-zero, zero-add, add-assoc, mul-assoc, pow-succ', pow-suc, two-pow-succ, one-mul, add-comm, add-mul-div-right, add-mul-mod-self-right}
+use lib.Pow.{pow-pos, pow-add, shr-shr, mod-pow-add}
 use Rattle.buffer_reader.specs.Tail.{tailBit, field}
 
 pub bit-lt : (f : List ℕ) (i : ℕ) → tailBit f i < 2
@@ -60,3 +60,12 @@ pub cut-more : (m n : ℕ) → m % 2 ^ suc n ≡ m % 2 + 2 * (m / 2 % 2 ^ n)
 cut-more m n =
     let width : suc n ≡ n + 1 = omega arith in
     rw width (omega (arith, mod-pow-add m n 1))
+
+-- what stands from bit k on does not reach the bits below k
+pub bit-below : (m k r j : ℕ) → j < k → (m * 2 ^ k + r) / 2 ^ j % 2 ≡ r / 2 ^ j % 2
+bit-below m k r j h =
+    let whole : k ≡ suc (k - 1 - j) + j = omega arith in
+    let parts : m * 2 ^ k ≡ m * 2 ^ (k - 1 - j) * 2 * 2 ^ j =
+    ap (λ (x : ℕ). m * 2 ^ x) whole ∙
+    rw (pow-add 2 (suc (k - 1 - j)) j, pow-suc 2 (k - 1 - j), ← mul-assoc m (2 ^ (k - 1 - j) * 2) (2 ^ j), ← mul-assoc m (2 ^ (k - 1 - j)) 2) refl in
+    rw (parts, add-comm (m * 2 ^ (k - 1 - j) * 2 * 2 ^ j) r, add-mul-div-right r (m * 2 ^ (k - 1 - j) * 2) (pow-pos j), add-mul-mod-self-right) refl

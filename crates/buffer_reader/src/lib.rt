@@ -3,6 +3,7 @@
 ghost use mathlib.Core.Path.{_≡_};
 ghost use Rattle.buffer_reader.specs.Reads.{takeByte, takeThree, takeBits, takeBit, byteOf, threeOf, bitsOf, bitOf};
 
+pub mod inner;
 mod tail;
 
 pub struct Cursor {
@@ -100,7 +101,7 @@ impl Cursor {
         if 65535 < len {
             return BitsRead::Refused(BufferError::TooLong(len));
         }
-        if !tail::listed(num_bits) {
+        if !inner::listed(num_bits) {
             return BitsRead::Refused(BufferError::WidthNotListed(num_bits));
         }
         let byte_index = self.tail / 8;

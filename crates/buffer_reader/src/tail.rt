@@ -7,27 +7,11 @@ ghost use lib.ListN.{length};
 ghost use Rattle.buffer_reader.specs.Tail.{tailNumber};
 ghost use Rattle.buffer_reader.specs.Tail.{field as Tail·field};
 ghost use Rattle.buffer_reader.specs.Reads.{bytesWanted};
-ghost use Rattle.buffer_reader.specs.Reads.{listed as Reads·listed};
 
 pub(crate) fn wide(byte: u8) -> u32
     ensures { λ r. ⌜ (r ≡ byte) × (r < 256) ⌝ }
 {
     byte as u32
-}
-
-pub(crate) fn listed(num_bits: usize) -> bool
-    ensures { λ r. ⌜ r ≡ Reads·listed «num_bits» ⌝ }
-{
-    if num_bits == 0 {
-        return false;
-    }
-    if num_bits <= 9 {
-        return true;
-    }
-    if num_bits == 24 {
-        return true;
-    }
-    num_bits == 25
 }
 
 pub(crate) fn bytes_wanted(num_bits: usize, bit_index: usize) -> usize

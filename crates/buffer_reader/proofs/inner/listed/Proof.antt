@@ -1,10 +1,10 @@
--- `tail::listed` meets its contract: the tests on the way say which of the listed widths it is, or none.
+-- `inner::listed` meets its contract: the tests on the way say which of the listed widths it is, or none.
 -- Assumes nothing.
 use mathlib.Core.Path.{refl, sym}
 use native.Mathlib.Omega.{arith}
 use Rattle.buffer_reader.proofs.Rooms.{listed-low, listed-rest}
-use Rattle.buffer_reader.proofs.tail.listed.Statement.{statement}
-use Rattle.buffer_reader.proofs.tail.listed.Tie as tie
+use Rattle.buffer_reader.proofs.inner.listed.Statement.{statement}
+use Rattle.buffer_reader.proofs.inner.listed.Tie as tie
 
 returns : tie.Need-returns
 returns c = rw (c .if1 .taken) refl

@@ -1,0 +1,47 @@
+// A byte with some of its bits replaced, and the room at the tail.
+ghost use mathlib.Core.Path.{_≡_};
+ghost use Prim.Native.Nat.{_+_, _*_, _^_, _≤_, _<_};
+ghost use lib.Dec.{ltb};
+ghost use Rattle.buffer_writer.specs.Writes.{withBit, withTop, oneIf};
+
+// Whether the bits pass the buffer's start, by a difference, since the cursor may be any number.
+pub(crate) fn beyond_start(len: usize, place: usize, num_bits: usize) -> bool
+    requires { ⌜ (len ≤ 65535) × («num_bits» ≤ 25) ⌝ }
+    ensures { λ r. ⌜ r ≡ ltb (8 * len) (place + «num_bits») ⌝ }
+{
+    let bits = 8 * len;
+    if bits < num_bits {
+        return true;
+    }
+    bits - num_bits < place
+}
+
+pub(crate) fn one_if(bit: bool) -> u32
+    ensures { λ r. ⌜ (r ≡ oneIf bit) × (r < 2) ⌝ }
+{
+    if bit { 1 } else { 0 }
+}
+
+fn power(k: usize) -> u32
+    requires { ⌜ k < 8 ⌝ }
+    ensures { λ r. ⌜ (r ≡ 2 ^ k) × (0 < r) ⌝ }
+{
+    1 << k
+}
+
+pub(crate) fn with_bit(byte: u8, k: usize, bit: u32) -> u8
+    requires { ⌜ (k < 8) × (bit < 2) ⌝ }
+    ensures { λ r. ⌜ r ≡ withBit byte k bit ⌝ }
+{
+    let wide = byte as u32;
+    let unit = power(k);
+    ((wide / unit / 2 * 2 + bit) * unit + wide % unit) as u8
+}
+
+pub(crate) fn with_top(byte: u8, val: u8, num_bits: usize) -> u8
+    requires { ⌜ (0 < «num_bits») × («num_bits» ≤ 8) ⌝ }
+    ensures { λ r. ⌜ r ≡ withTop byte val «num_bits» ⌝ }
+{
+    let unit = power(8 - num_bits);
+    ((val as u32) / unit * unit + (byte as u32) % unit) as u8
+}
