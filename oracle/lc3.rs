@@ -138,6 +138,35 @@ pub mod encoder {
             pub fn finish(coder: &mut BitstreamEncoding, bytes: &mut [u8]) {
                 coder.ac_enc_finish(bytes)
             }
+
+            // What `encode` takes for the side information.
+            pub struct Side {
+                pub bandwidth: BandwidthDetectorResult,
+                pub sns: SnsResult,
+                pub tns: TnsResult,
+                pub post_filter: LongTermPostFilterResult,
+                pub spec: SpectralQuantizationResult,
+                pub noise_factor: usize,
+            }
+
+            // The part of `encode` that writes the side information, at any place; its `init` would clear the frame.
+            pub fn side(ne: usize, writer: BufferWriter, side: &Side, bytes: &mut [u8]) -> BufferWriter {
+                let Side { bandwidth, sns, tns, post_filter, spec, noise_factor } = side;
+                let mut coder = BitstreamEncoding { writer, ..BitstreamEncoding::new(ne) };
+                coder.bandwidth(bandwidth.bandwidth_ind, bandwidth.nbits_bandwidth, bytes);
+                coder.last_non_zero_tuple(spec.lastnz_trunc, bytes);
+                coder.lsb_mode_bit(spec.lsb_mode, bytes);
+                coder.global_gain(spec.gg_ind as usize, bytes);
+                coder.tns_activation_flag(tns.num_tns_filters, &tns.rc_order, bytes);
+                coder.pitch_present_flag(post_filter.pitch_present, bytes);
+                coder.encode_scf_vq_1st_stage(sns.ind_lf, sns.ind_hf, bytes);
+                coder.encode_scf_vq_2nd_stage(sns.shape_j, sns.gind, sns.ls_inda, sns.index_joint_j, bytes);
+                if post_filter.pitch_present {
+                    coder.ltpf_data(post_filter.ltpf_active, post_filter.pitch_index, bytes);
+                }
+                coder.noise_factor(*noise_factor, bytes);
+                coder.writer
+            }
         }
     }
 

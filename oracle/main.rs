@@ -4,11 +4,13 @@
 
 mod cases {
     pub mod buffer_reader;
+    pub mod buffer_writer;
+    pub mod side_info;
 }
 mod lc3;
 mod records;
 
-use cases::buffer_reader;
+use cases::{buffer_reader, buffer_writer, side_info};
 // the six files name these from the crate's root
 use lc3::{common, encoder, tables};
 use records::Records;
@@ -19,7 +21,11 @@ struct Module {
     sample: fn(&mut Records),
 }
 
-const MODULES: [Module; 1] = [Module { name: "buffer_reader", run: buffer_reader::run, sample: buffer_reader::sample }];
+const MODULES: [Module; 3] = [
+    Module { name: "buffer_reader", run: buffer_reader::run, sample: buffer_reader::sample },
+    Module { name: "buffer_writer", run: buffer_writer::run, sample: buffer_writer::sample },
+    Module { name: "side_info", run: side_info::run, sample: side_info::sample },
+];
 
 fn main() {
     records::quiet_panics();

@@ -1,6 +1,6 @@
 // Records of cases and answers, the generator that makes the cases, and the guard that makes a panic an answer.
 
-use std::collections::BTreeMap;
+use std::collections::btree_map::{BTreeMap, Entry};
 use std::io::{BufWriter, Stdout, Write};
 use std::panic::{catch_unwind, set_hook, take_hook, AssertUnwindSafe};
 use std::sync::atomic::{AtomicBool, Ordering};
@@ -8,6 +8,13 @@ use std::sync::atomic::{AtomicBool, Ordering};
 // First byte of an answer.
 pub const ACCEPTED: u8 = 0;
 pub const PANICKED: u8 = 255;
+
+// The answer of a refusal: its number and its values.
+pub fn refused(number: u8, values: &[usize]) -> Vec<u8> {
+    let mut answer = vec![number];
+    values.iter().for_each(|v| answer.extend((*v as u64).to_be_bytes()));
+    answer
+}
 
 // Splitmix64: the same numbers from a seed on every machine.
 pub struct Rng(u64);
@@ -32,6 +39,35 @@ impl Rng {
 
     pub fn bytes(&mut self, len: usize) -> Vec<u8> {
         (0..len).map(|_| self.next() as u8).collect()
+    }
+}
+
+// Holds one case of each class, every case of a class as likely as another.
+pub struct OneOfEach<K, C>(BTreeMap<K, (usize, C)>);
+
+impl<K: Ord, C> OneOfEach<K, C> {
+    pub fn new() -> Self {
+        OneOfEach(BTreeMap::new())
+    }
+
+    pub fn take(&mut self, pick: &mut Rng, class: K, case: C) {
+        match self.0.entry(class) {
+            Entry::Vacant(class) => {
+                class.insert((1, case));
+            }
+            Entry::Occupied(mut class) => {
+                let (seen, held) = class.get_mut();
+                *seen += 1;
+                if pick.below(*seen) == 0 {
+                    *held = case;
+                }
+            }
+        }
+    }
+
+    // In the order of the classes.
+    pub fn cases(&self) -> impl Iterator<Item = &C> {
+        self.0.values().map(|(_, case)| case)
     }
 }
 

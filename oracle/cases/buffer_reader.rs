@@ -2,8 +2,7 @@
 // The limits below only aim the cases; every answer is the Rust's.
 
 use crate::lc3::decoder::buffer_reader::{BufferReader, BufferReaderError};
-use crate::records::{caught, Records, Rng, ACCEPTED, PANICKED};
-use std::collections::btree_map::{BTreeMap, Entry};
+use crate::records::{caught, refused, OneOfEach, Records, Rng, ACCEPTED, PANICKED};
 
 const WIDTHS: [usize; 11] = [1, 2, 3, 4, 5, 6, 7, 8, 9, 24, 25];
 // the largest cursor that is compared
@@ -61,11 +60,6 @@ impl Case {
         }) {
             None => return vec![PANICKED],
             Some(value) => value,
-        };
-        let refused = |number: u8, values: &[usize]| {
-            let mut answer = vec![number];
-            values.iter().for_each(|v| answer.extend((*v as u64).to_be_bytes()));
-            answer
         };
         match value {
             Ok(v) => {
@@ -212,20 +206,9 @@ pub fn run(out: &mut Records, seed: u64, count: usize) {
 pub fn sample(out: &mut Records) {
     let rng = &mut Rng::new(0);
     let pick = &mut Rng::new(1);
-    let mut classes: BTreeMap<_, (usize, Case)> = BTreeMap::new();
-    exhaustive(rng, |case| match classes.entry(case.class()) {
-        Entry::Vacant(class) => {
-            class.insert((1, case));
-        }
-        Entry::Occupied(mut class) => {
-            let (seen, held) = class.get_mut();
-            *seen += 1;
-            if pick.below(*seen) == 0 {
-                *held = case;
-            }
-        }
-    });
-    classes.values().for_each(|(_, case)| case.put(out));
+    let mut classes = OneOfEach::new();
+    exhaustive(rng, |case| classes.take(pick, case.class(), case));
+    classes.cases().for_each(|case| case.put(out));
     let mut one_in = |n: usize, case: Case| {
         if pick.below(n) == 0 {
             case.put(out)

@@ -3,3 +3,4 @@ pub mod Fields
 pub mod Rooms
 pub mod Answers
 pub mod Unique
+pub mod Steps

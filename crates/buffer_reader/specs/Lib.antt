@@ -1,2 +1,3 @@
 pub mod Tail
 pub mod Reads
+pub mod Steps

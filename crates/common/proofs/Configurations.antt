@@ -1,14 +1,15 @@
 -- The limits that a configuration keeps which passes, and document 01's numbers of lines as products.
 -- Assumes nothing.
 use Prim.Native.Nat.{ℕ, zero, suc, _+_, _*_, _≤_}
-use mathlib.Core.Path.{_≡_, refl}
-use mathlib.Core.Bool.{true, false, _&&_}
+use mathlib.Core.Path.{_≡_, refl, sym, _∙_}
+use mathlib.Core.Bool.{Bool, true, false, not, _&&_}
 use native.Mathlib.Omega.{arith}
-use borrow.Author.Tests.{leb-true, le-leb}
+use borrow.Author.Tests.{leb-true, le-leb, not-false}
 use lib.Dec.{leb}
 use Rattle.common.proofs.Bools.{and-left, and-right}
 use Rattle.common.specs.Configuration.{configurationPasses, ne, linesOf}
-use Rattle.common.specs.Reply.{accepted, refused, outsideLimits}
+use Rattle.common.specs.Reply.{Reply, accepted, refused, outsideLimits}
+use Rattle.common.proofs.Replies.{no-refusal, accepted-same, given-split}
 use Rattle.common.specs.declared.configuration.Configuration.{Configuration}
 
 -- within the first two limits the third decides
@@ -47,3 +48,24 @@ lines-passed c e = rw e refl
 
 pub lines-refused : (c : Configuration) → configurationPasses c ≡ false → linesOf c ≡ refused outsideLimits
 lines-refused c e = rw e refl
+
+pub lines-known : (c : Configuration) {n : ℕ} → linesOf c ≡ accepted n → (configurationPasses c ≡ true) × (n ≡ ne (c .duration) (c .«fs_ind»))
+lines-known c e =
+    let p = given-split (not (configurationPasses c)) outsideLimits (accepted (ne (c .duration) (c .«fs_ind»))) e in
+    (not-false (configurationPasses c) (p .0), sym (accepted-same (p .1)))
+
+pub lines-unknown : (c : Configuration) {r : Reply} → linesOf c ≡ refused r → configurationPasses c ≡ false
+lines-unknown c e = go (configurationPasses c) refl
+  where
+    go : (t : Bool) → configurationPasses c ≡ t → configurationPasses c ≡ false
+    go true p = absurd (no-refusal (sym (lines-passed c p) ∙ e))
+    go false p = p
+
+-- 60 to 400 lines
+pub ne-range : (c : Configuration) → configurationPasses c ≡ true → (60 ≤ ne (c .duration) (c .«fs_ind»)) × (ne (c .duration) (c .«fs_ind») ≤ 400)
+ne-range c e = within (c .duration) (c .«fs_ind») (duration-limit c e) (fs-limit c e)
+  where
+    within : (d fs : ℕ) → d ≤ 1 → fs ≤ 4 → (60 ≤ ne d fs) × (ne d fs ≤ 400)
+    within zero fs p q = rw (ne-long fs q) (omega arith, omega arith)
+    within (suc zero) fs p q = rw (ne-short fs q) (omega arith, omega arith)
+    within (suc (suc d)) fs p q = absurd (omega arith)

@@ -1,0 +1,3 @@
+pub mod Number
+pub mod Agreement
+pub mod Place

@@ -1,0 +1,25 @@
+// What this code answers, by the kind of the case. A new module takes the next kinds and the next place.
+ghost use Prim.Native.Nat.{_≤_, _<_};
+ghost use lib.ListN.{length};
+use crate::reader_cases;
+
+// The length of the answer; 0 where the kind is unknown or the case malformed.
+pub(crate) fn answer(kind: u8, case: &[u8], out: &mut [u8]) -> usize
+    requires { ⌜ 4096 ≤ length (now out) ⌝ }
+    ensures { λ r. ⌜ r ≤ length (now (out .exit)) ⌝ }
+{
+    match kind {
+        1..=4 => reader_cases::answer(kind, case, out),
+        _ => 0,
+    }
+}
+
+// The place of a kind's module in the tally. A kind that has none is never counted.
+pub(crate) fn place(kind: u8) -> usize
+    ensures { λ r. ⌜ r < 8 ⌝ }
+{
+    match kind {
+        1..=4 => 0,
+        _ => 7,
+    }
+}
