@@ -74,3 +74,7 @@ or-false false e = sym e
 pub or-fails-second : (a b : Bool) → (a || b) ≡ false → b ≡ false
 or-fails-second true b e = absurd (true≢false e)
 or-fails-second false b e = e
+
+pub not-passed : (t : Bool) → (t ≡ true → ⊥) → t ≡ false
+not-passed true h = absurd (h refl)
+not-passed false h = refl

@@ -1,3 +1,11 @@
 pub mod Values
 pub mod Widths
 pub mod Answers
+pub mod Room
+pub mod Within
+pub mod Joints
+pub mod Layouts
+pub mod Lengths
+pub mod Depends
+pub mod Image
+pub mod RoundTrip

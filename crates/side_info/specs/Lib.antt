@@ -1,2 +1,5 @@
 pub mod Joint
 pub mod Reader
+pub mod Record
+pub mod Layout
+pub mod Writer

@@ -1,6 +1,8 @@
 // The side information: its record, read from the tail of a frame and written there.
 pub mod fields;
+mod limits;
 pub mod reader;
+pub mod writer;
 
 // Spectral noise shaping: the two 5-bit indices, then the second stage.
 pub struct Sns {
