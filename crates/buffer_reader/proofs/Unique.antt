@@ -1,11 +1,12 @@
 -- What an answer says decides the answer: each enum is found again from its reply, so a contract that gives the reply gives
 -- the result. Assumes nothing.
 use Prim.Native.Nat.{ℕ}
-use mathlib.Core.Path.{_≡_, refl, sym, ap, _∙_}
+use mathlib.Core.Path.{_≡_, refl, ap}
 use mathlib.Core.Bool.{Bool, cond}
 use lib.Dec.{eqb}
 use lib.ListN.{getD}
 use Rattle.common.specs.Reply.{Reply, Answer, accepted, refused}
+use Rattle.common.proofs.Unique.{from-back}
 use Rattle.buffer_reader.specs.Reads.{replyOf, byteOf, threeOf, bitsOf, bitOf}
 use Rattle.buffer_reader.specs.declared.Cursor.{Cursor}
 use Rattle.buffer_reader.specs.declared.BufferError.{BufferError}
@@ -19,17 +20,14 @@ use Rattle.buffer_reader.specs.declared.BitsRead.the-variants.{Bits, Ref
 use Rattle.buffer_reader.specs.declared.BitRead.{BitRead}
 use Rattle.buffer_reader.specs.declared.BitRead.the-variants.{Bit, Refused as BitRefused}
 
--- a function that has a way back takes two values to one only if they are one
-pub from-back : {A B : Type 0} (f : A → B) (back : B → A) → ((a : A) → back (f a) ≡ a) → (a b : A) → f a ≡ f b → a ≡ b
-from-back f back h a b e = sym (h a) ∙ ap back e ∙ h b
-
-errorBack : Reply → BufferError
+-- a refusal, found again by its number
+unfoldable pub errorBack : Reply → BufferError
 errorBack r =
     cond (eqb (r .number) 2) (TooLong (getD (r .values) 0 0))
     (cond (eqb (r .number) 17) (WidthNotListed (getD (r .values) 0 0))
     (cond (eqb (r .number) 9) (NoTailRoom (getD (r .values) 0 0) (getD (r .values) 1 0)) (PastEnd (getD (r .values) 0 0))))
 
-error-back : (e : BufferError) → errorBack (replyOf e) ≡ e
+pub error-back : (e : BufferError) → errorBack (replyOf e) ≡ e
 unfolding errorBack
 error-back (TooLong n) = refl
 error-back (WidthNotListed n) = refl
@@ -38,7 +36,7 @@ error-back (PastEnd h) = refl
 
 -- an answer of some enum, by what it makes of a value and of a refusal
 module _ {A E : Type 0} (value : A → E) (error : BufferError → E) where
-  backFrom : Answer A → E
+  unfoldable pub backFrom : Answer A → E
   backFrom (accepted a) = value a
   backFrom (refused r) = error (errorBack r)
 

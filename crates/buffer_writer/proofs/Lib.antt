@@ -1,3 +1,4 @@
 pub mod Bytes
 pub mod Places
 pub mod Answers
+pub mod Unique

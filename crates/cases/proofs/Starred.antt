@@ -5,8 +5,11 @@ use mathlib.Core.List.{List, map}
 use Prim.Native.Nat.{ℕ}
 use Rattle.common.specs.Tables.{total}
 use Rattle.common.specs.Flat.{tabulate}
+use Rattle.buffer_reader.specs.Tail.{field}
+use Rattle.buffer_writer.specs.Writes.{putField}
+use Rattle.side_info.specs.Reader.{leastWidth}
 use Rattle.cases.specs.Starred.{Case, starred}
 
 pub all-as-stated : map (λ (c : Case). c .defined) starred ≡ map (λ (c : Case). c .stated) starred
-unfolding total tabulate
+unfolding total tabulate putField field leastWidth
 all-as-stated = refl

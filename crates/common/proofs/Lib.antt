@@ -5,3 +5,4 @@ pub mod Fills
 pub mod Sets
 pub mod Cumulatives
 pub mod Replies
+pub mod Unique

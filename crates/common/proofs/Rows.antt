@@ -1,5 +1,4 @@
 -- One turn of each check of the table set: what is left to judge at a place, by the entry there and what is left behind it.
--- And the laws of cumulatives: each entry adds itself, they rise in a row that passes, and end at 1,024.
 -- Assumes nothing.
 use Prim.Native.Nat.{ℕ, zero, suc, _+_, _-_, _*_, _≤_, _<_}
 use mathlib.Core.Path.{_≡_, refl, sym, ap, _∙_}

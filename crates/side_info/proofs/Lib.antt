@@ -9,3 +9,5 @@ pub mod Lengths
 pub mod Depends
 pub mod Image
 pub mod RoundTrip
+pub mod Exact
+pub mod Unique

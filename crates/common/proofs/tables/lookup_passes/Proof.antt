@@ -27,7 +27,7 @@ shared-slice-read-if2 c = omega arith
 
 returns-2 : tie.Need-returns-2 Inv-loop μ-loop
 returns-2 c =
-    sym (most-over _ _ _ (c .before .before .loop-test .taken) (c .if2 .taken)) ∙ c .before .before .before .loop .inv .1
+    sym (most-over 63 _ _ (c .before .before .loop-test .taken) (omega (arith, c .if2 .taken))) ∙ c .before .before .before .loop .inv .1
 
 add-i : tie.Need-add-i Inv-loop μ-loop
 add-i c = omega arith
@@ -38,7 +38,7 @@ loop-less c = omega arith
 loop-again : tie.Need-loop-again Inv-loop μ-loop
 loop-again c = (
   omega arith,
-  sym (most-next _ _ _ (c .before .before .loop-test .taken) (c .if2 .left)) ∙ c .before .before .before .loop .inv .1,
+  sym (most-next 63 _ _ (c .before .before .loop-test .taken) (omega (arith, c .if2 .left))) ∙ c .before .before .before .loop .inv .1,
 )
 
 returns-3 : tie.Need-returns-3 Inv-loop μ-loop

@@ -1,0 +1,24 @@
+-- What an answer says decides the answer: an enum that is found again from its reply is given by it.
+-- Assumes nothing.
+use Prim.Native.Nat.{ℕ}
+use mathlib.Core.Path.{_≡_, refl, sym, ap, _∙_}
+use Rattle.common.specs.Reply.{Answer, accepted, refused}
+use Rattle.common.specs.Configuration.{replyOf}
+use Rattle.common.specs.declared.configuration.Lines.{Lines}
+use Rattle.common.specs.declared.configuration.Lines.the-variants.{Encoded, OutsideLimits}
+
+-- a function that has a way back takes two values to one only if they are one
+pub from-back : {A B : Type 0} (f : A → B) (back : B → A) → ((a : A) → back (f a) ≡ a) → (a b : A) → f a ≡ f b → a ≡ b
+from-back f back h a b e = sym (h a) ∙ ap back e ∙ h b
+
+linesBack : Answer ℕ → Lines
+linesBack (accepted n) = Encoded n
+linesBack (refused r) = OutsideLimits
+
+pub lines-unique : (a b : Lines) → replyOf a ≡ replyOf b → a ≡ b
+unfolding linesBack
+lines-unique = from-back replyOf linesBack found
+  where
+    found : (r : Lines) → linesBack (replyOf r) ≡ r
+    found (Encoded n) = refl
+    found OutsideLimits = refl
