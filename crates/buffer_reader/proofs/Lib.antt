@@ -4,3 +4,4 @@ pub mod Rooms
 pub mod Answers
 pub mod Unique
 pub mod Steps
+pub mod Roomy

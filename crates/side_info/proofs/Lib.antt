@@ -11,3 +11,4 @@ pub mod Image
 pub mod RoundTrip
 pub mod Exact
 pub mod Unique
+pub mod Start
