@@ -2,3 +2,4 @@ pub mod Bytes
 pub mod Places
 pub mod Answers
 pub mod Unique
+pub mod Back
