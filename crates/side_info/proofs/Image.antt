@@ -23,6 +23,8 @@ use Rattle.side_info.specs.declared.SideInfo.{SideInfo}
 use Rattle.side_info.specs.declared.reader.Opening.{Opening}
 use Rattle.side_info.specs.declared.reader.Flags.{Flags}
 use Rattle.side_info.proofs.Values.{Below}
+use Rattle.side_info.specs.Reader.{sideInfoOf}
+use Rattle.side_info.proofs.Joints.{SnsLimits}
 
 -- a value is at most a limit
 abbrev Within : ℕ → ℕ × Cursor → Type 0
@@ -48,45 +50,33 @@ present-holds : (t : Bool) (most : ℕ) (s : Reading ℕ) (f : List ℕ) (c : Cu
 present-holds true most s f c h = most-of most (s f c) h
 present-holds false most s f c h = omega arith
 
--- each field of the second stage is within the most that its shape allows
-record SnsFits (s : Sns) : Type 0 where
-  low : s .lf ≤ 31
-  high : s .hf ≤ 31
-  wide : s .msb ≤ 1
-  sub : s .«submode_lsb» ≤ 1
-  level : s .gain ≤ gainMost (shapeOf s)
-  sign-a : s .«ls_inda» ≤ 1
-  place-a : s .«idx_a» ≤ idxMost (shapeOf s)
-  sign-b : s .«ls_indb» ≤ mostIf (eqb (shapeOf s) 0) 1
-  place-b : s .«idx_b» ≤ mostIf (eqb (shapeOf s) 0) 5
-
 -- nine tests at once
-sns-all : (s : Sns) → SnsFits s → snsPasses s ≡ true
+sns-all : (s : Sns) → SnsLimits s → snsPasses s ≡ true
 sns-all s h =
     and-both _ _
     (and-both _ _
     (and-both _ _
     (and-both _ _
     (and-both _ _
-    (and-both _ _ (and-both _ _ (and-both _ _ (le-leb _ _ (h .low)) (le-leb _ _ (h .high))) (le-leb _ _ (h .wide))) (le-leb _ _ (h .sub)))
-    (le-leb _ _ (h .level)))
-    (le-leb _ _ (h .sign-a)))
-    (le-leb _ _ (h .place-a)))
-    (le-leb _ _ (h .sign-b)))
-    (le-leb _ _ (h .place-b))
+    (and-both _ _ (and-both _ _ (and-both _ _ (le-leb _ _ (h .low)) (le-leb _ _ (h .high))) (le-leb _ _ (h .stage))) (le-leb _ _ (h .mode)))
+    (le-leb _ _ (h .gains)))
+    (le-leb _ _ (h .signA)))
+    (le-leb _ _ (h .indexA)))
+    (le-leb _ _ (h .signB)))
+    (le-leb _ _ (h .indexB))
 
 -- one of two second stages, by a test
-fits-either : (t : Bool) (x y : Sns) → (t ≡ true → SnsFits x) → (t ≡ false → SnsFits y) → SnsFits (cond t x y)
+fits-either : (t : Bool) (x y : Sns) → (t ≡ true → SnsLimits x) → (t ≡ false → SnsLimits y) → SnsLimits (cond t x y)
 fits-either true x y p q = p refl
 fits-either false x y p q = q refl
 
 module _ (lf hf part lsInda : ℕ) (l : lf < 32) (h : hf < 32) (a : lsInda < 2) where
   -- J of 25 bits, by its quotient and remainder: below 2 the quotient is a part of the gain, else it holds idx_b and ls_indb
-  fits-25 : (q rest : ℕ) → part < 2 → q < 14 → rest < 2390004 → SnsFits (snsOf25 lf hf part lsInda q rest)
+  fits-25 : (q rest : ℕ) → part < 2 → q < 14 → rest < 2390004 → SnsLimits (snsOf25 lf hf part lsInda q rest)
   fits-25 q rest p m n = fits-either (ltb q 2) _ _ (λ e. let below : q < 2 = ltb-true q 2 e in omega arith) (λ e. omega arith)
 
   -- J of 24 bits: from 15158272 on its last bit is a part of the gain
-  fits-24 : (j : ℕ) → part < 4 → j < 16708096 → SnsFits (snsOf24 lf hf part lsInda j)
+  fits-24 : (j : ℕ) → part < 4 → j < 16708096 → SnsLimits (snsOf24 lf hf part lsInda j)
   fits-24 j p m =
       fits-either (ltb j 15158272) _ _ (λ e. let below : j < 15158272 = ltb-true j 15158272 e in omega arith) (λ e. omega arith)
 
@@ -174,23 +164,6 @@ side-all fs ne s h p =
     (le-leb _ _ (h .lag)))
     (le-leb _ _ (h .floor))
 
--- the record out of its parts
-abbrev made : Opening → Flags → Sns → ℕ → ℕ → ℕ → SideInfo
-made o g sns active index noise =
-    record {
-      bandwidth = o .bandwidth;
-      lastnz = o .lastnz;
-      lsb = o .lsb;
-      gain = o .gain;
-      «tns_first» = g .first;
-      «tns_second» = g .second;
-      pitch = g .pitch;
-      sns = sns;
-      active = active;
-      index = index;
-      noise = noise;
-    }
-
 -- what is shown of every record that is returned
 abbrev Passes : ℕ → ℕ → SideInfo × Cursor → Type 0
 Passes fs ne r = sidePasses fs ne (r .0) ≡ true
@@ -207,7 +180,7 @@ module _ (fs ne : ℕ) (f : List ℕ) (o : Opening) (g : Flags) (p : OpeningFits
       (λ x s. holds-then (Passes fs ne) (Within (mostIf (eqb (g .pitch) 1) 511)) (ifPresent (eqb (g .pitch) 1) (sideField 9) f (x .1)) _
       (present-holds (eqb (g .pitch) 1) 511 (sideField 9) f (x .1) (field-holds side 9 f (x .1)))
       (λ y t. holds-then (Passes fs ne) (Below 8) (sideField 3 f (y .1)) _ (field-holds side 3 f (y .1))
-      (λ z u. side-all fs ne (made o g sns (x .0) (y .0) (z .0)) (omega arith) r)))
+      (λ z u. side-all fs ne (sideInfoOf o g sns (x .0) (y .0) (z .0)) (omega arith) r)))
 
   -- behind msb, with the limit of J that it sets
   shape-by : (lf hf msb limit : ℕ) (c : Cursor) → ((d : Cursor) → Holds (Below limit) (readJoint msb f d)) → SnsBelow lf hf msb limit → Holds (Passes fs ne) (fromShape o g lf hf msb f c)

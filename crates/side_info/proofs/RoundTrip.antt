@@ -25,7 +25,7 @@ use Rattle.buffer_reader.proofs.Rooms.{listed-low, wanted-holds}
 use Rattle.buffer_reader.proofs.Answers.{bits-taken, bit-taken}
 use Rattle.side_info.specs.Joint.{snsOf, partOf, jointOf}
 use Rattle.side_info.specs.Reader.{sideField, sideFlag, bandwidthBits, lastnzBits, readBandwidth, readLastnz, readJoint}
-use Rattle.side_info.specs.Reader.{fromFilter, fromShape, fromSns, fromFlags, fromLevel, readAll, frameLength, readSide}
+use Rattle.side_info.specs.Reader.{fromFilter, fromShape, fromSns, fromFlags, fromLevel, readAll, frameLength, readSide, sideInfoOf}
 use Rattle.side_info.specs.Record.{mostIf, sidePasses, snsPasses}
 use Rattle.side_info.specs.Layout.{sideValues, sideWidths, sideLength, putFields}
 use Rattle.side_info.specs.declared.Sns.{Sns}
@@ -119,23 +119,6 @@ activeWidth pitch = mostIf (eqb pitch 1) 1
 abbrev indexWidth : ℕ → ℕ
 indexWidth pitch = mostIf (eqb pitch 1) 9
 
--- the record that the last fields complete
-abbrev complete : Opening → Flags → Sns → ℕ → ℕ → ℕ → SideInfo
-complete o fl sns active index noise =
-    record {
-      bandwidth = o .bandwidth;
-      lastnz = o .lastnz;
-      lsb = o .lsb;
-      gain = o .gain;
-      «tns_first» = fl .first;
-      «tns_second» = fl .second;
-      pitch = fl .pitch;
-      sns = sns;
-      active = active;
-      index = index;
-      noise = noise;
-    }
-
 -- one field, one bit, and one that may be absent, where the frame has room
 module _ (g : List ℕ) (h most : ℕ) (size : length g ≤ 65535) (room : h + 4 + most / 8 ≤ length g) where
   field-step : (n t v : ℕ) → listed n ≡ true → t ≤ most → field g t n ≡ v →
@@ -173,7 +156,7 @@ module _ (g : List ℕ) (h most : ℕ) (size : length g ≤ 65535) (room : h + 4
       field g (t + activeWidth (fl .pitch) + indexWidth (fl .pitch)) 3 ≡ noise →
       t + activeWidth (fl .pitch) + indexWidth (fl .pitch) ≤ most →
       fromFilter o fl sns g (at h t) ≡
-      accepted (complete o fl sns active index noise, at h (t + activeWidth (fl .pitch) + indexWidth (fl .pitch) + 3))
+      accepted (sideInfoOf o fl sns active index noise, at h (t + activeWidth (fl .pitch) + indexWidth (fl .pitch) + 3))
   filter-reads o fl sns t active index noise ea ei en l =
       let p = eqb (fl .pitch) 1 in
       let a = flag-if p t active (omega arith) ea in

@@ -60,14 +60,10 @@ readJoint msb =
     next (sideField (25 - msb))
     (λ j. cond (eqb msb 0) (refusing (leb 33460056 j) (jointTooLarge25 j) (found j)) (refusing (leb 16708096 j) (jointTooLarge24 j) (found j)))
 
--- "if pitch, active 1 and index 9; noise 3"
-abbrev pub fromFilter : Opening → Flags → Sns → Reading SideInfo
-fromFilter opening flags sns =
-    next (ifPresent (eqb (flags .pitch) 1) sideFlag)
-    (λ active. next (ifPresent (eqb (flags .pitch) 1) (sideField 9))
-    (λ index. next (sideField 3)
-    (λ noise. found
-    (record {
+-- the record out of what was read
+abbrev pub sideInfoOf : Opening → Flags → Sns → ℕ → ℕ → ℕ → SideInfo
+sideInfoOf opening flags sns active index noise =
+    record {
       bandwidth = opening .bandwidth;
       lastnz = opening .lastnz;
       lsb = opening .lsb;
@@ -79,7 +75,14 @@ fromFilter opening flags sns =
       active = active;
       index = index;
       noise = noise;
-    }))))
+    }
+
+-- "if pitch, active 1 and index 9; noise 3"
+abbrev pub fromFilter : Opening → Flags → Sns → Reading SideInfo
+fromFilter opening flags sns =
+    next (ifPresent (eqb (flags .pitch) 1) sideFlag)
+    (λ active. next (ifPresent (eqb (flags .pitch) 1) (sideField 9))
+    (λ index. next (sideField 3) (λ noise. found (sideInfoOf opening flags sns active index noise))))
 
 -- "gain part 1 (msb 0) or 2 bits; ls_inda 1; joint index J"
 abbrev pub fromShape : Opening → Flags → ℕ → ℕ → ℕ → Reading SideInfo
