@@ -2,6 +2,8 @@
 ghost use Prim.Native.Nat.{_≤_, _<_};
 ghost use lib.ListN.{length};
 use crate::reader_cases;
+use crate::side_cases;
+use crate::writer_cases;
 
 // The length of the answer; 0 where the kind is unknown or the case malformed.
 pub(crate) fn answer(kind: u8, case: &[u8], out: &mut [u8]) -> usize
@@ -10,6 +12,8 @@ pub(crate) fn answer(kind: u8, case: &[u8], out: &mut [u8]) -> usize
 {
     match kind {
         1..=4 => reader_cases::answer(kind, case, out),
+        5..=8 => writer_cases::answer(kind, case, out),
+        9..=10 => side_cases::answer(kind, case, out),
         _ => 0,
     }
 }
@@ -20,6 +24,8 @@ pub(crate) fn place(kind: u8) -> usize
 {
     match kind {
         1..=4 => 0,
+        5..=8 => 1,
+        9..=10 => 2,
         _ => 7,
     }
 }

@@ -6,7 +6,11 @@ mod reader_cases;
 mod record;
 mod refusal;
 mod report;
+mod side_cases;
+mod side_record;
 mod tally;
+mod writer_cases;
+mod written;
 
 ghost use lib.ListN.{length};
 ghost use Rattle.vectors.specs.Place.{Held, Parts};
@@ -30,7 +34,7 @@ fn replay(buf: &[u8], kept: &mut [u8], r: Record, tally: Tally) -> Tally
     let case = r.case;
     let answer = r.answer;
     let end = r.end;
-    let mut ours = [0u8; 4096];
+    let mut ours = [0u8; 8192];
     let n = answers::answer(r.kind, &buf[case..answer], &mut ours);
     if n == 0 {
         return tally.malformed();

@@ -36,6 +36,13 @@ fn four(bytes: &[u8], at: usize) -> usize
     two(bytes, at) * 65536 + two(bytes, at + 2)
 }
 
+pub(crate) fn word_at(bytes: &[u8], at: usize) -> u32
+    requires { ⌜ at + 4 ≤ length (now bytes) ⌝ }
+    ensures { λ r. ⌜ r ≡ fourAt (now (bytes .entry)) at ⌝ }
+{
+    four(bytes, at) as u32
+}
+
 pub(crate) fn eight(bytes: &[u8], at: usize) -> usize
     requires { ⌜ at + 8 ≤ length (now bytes) ⌝ }
     ensures { λ r. ⌜ r ≡ eightAt (now (bytes .entry)) at ⌝ }

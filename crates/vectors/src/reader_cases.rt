@@ -11,7 +11,6 @@ use crate::number::word;
 use crate::refusal;
 use buffer_reader::BitRead;
 use buffer_reader::BitsRead;
-use buffer_reader::BufferError;
 use buffer_reader::ByteRead;
 use buffer_reader::Cursor;
 use buffer_reader::ThreeRead;
@@ -42,7 +41,7 @@ fn byte(cursor: Cursor, buf: &[u8], out: &mut [u8]) -> usize
 {
     match cursor.take_byte(buf) {
         ByteRead::Byte(value, next) => accepted(wide(value), next, out),
-        ByteRead::Refused(why) => refused(why, out),
+        ByteRead::Refused(why) => refusal::of_buffer(why, out),
     }
 }
 
@@ -52,7 +51,7 @@ fn three(cursor: Cursor, buf: &[u8], out: &mut [u8]) -> usize
 {
     match cursor.take_three(buf) {
         ThreeRead::Three(value, next) => accepted(word(value), next, out),
-        ThreeRead::Refused(why) => refused(why, out),
+        ThreeRead::Refused(why) => refusal::of_buffer(why, out),
     }
 }
 
@@ -62,7 +61,7 @@ fn bits(cursor: Cursor, buf: &[u8], width: usize, out: &mut [u8]) -> usize
 {
     match cursor.take_bits(buf, width) {
         BitsRead::Bits(value, next) => accepted(word(value), next, out),
-        BitsRead::Refused(why) => refused(why, out),
+        BitsRead::Refused(why) => refusal::of_buffer(why, out),
     }
 }
 
@@ -72,7 +71,7 @@ fn bit(cursor: Cursor, buf: &[u8], out: &mut [u8]) -> usize
 {
     match cursor.take_bit(buf) {
         BitRead::Bit(value, next) => accepted(flag(value), next, out),
-        BitRead::Refused(why) => refused(why, out),
+        BitRead::Refused(why) => refusal::of_buffer(why, out),
     }
 }
 
@@ -85,17 +84,4 @@ fn accepted(value: usize, next: Cursor, out: &mut [u8]) -> usize
     put_eight(out, 5, next.head);
     put_eight(out, 13, next.tail);
     21
-}
-
-// The numbers are those of document 01.
-fn refused(why: BufferError, out: &mut [u8]) -> usize
-    requires { ⌜ 4096 ≤ length (now out) ⌝ }
-    ensures { λ r. ⌜ r ≤ length (now (out .exit)) ⌝ }
-{
-    match why {
-        BufferError::TooLong(len) => refusal::of_one(2, len, out),
-        BufferError::NoTailRoom(width, bit_index) => refusal::of_two(9, width, bit_index, out),
-        BufferError::PastEnd(head) => refusal::of_one(10, head, out),
-        BufferError::WidthNotListed(width) => refusal::of_one(17, width, out),
-    }
 }

@@ -3,6 +3,15 @@ ghost use Prim.Native.Nat.{_≤_};
 ghost use lib.ListN.{length};
 use crate::number::put_byte;
 use crate::number::put_eight;
+use buffer_reader::BufferError;
+
+pub(crate) fn of_none(number: u8, out: &mut [u8]) -> usize
+    requires { ⌜ 4096 ≤ length (now out) ⌝ }
+    ensures { λ r. ⌜ r ≤ length (now (out .exit)) ⌝ }
+{
+    put_byte(out, 0, number);
+    1
+}
 
 pub(crate) fn of_one(number: u8, value: usize, out: &mut [u8]) -> usize
     requires { ⌜ 4096 ≤ length (now out) ⌝ }
@@ -21,4 +30,16 @@ pub(crate) fn of_two(number: u8, first: usize, second: usize, out: &mut [u8]) ->
     put_eight(out, 1, first);
     put_eight(out, 9, second);
     17
+}
+
+pub(crate) fn of_buffer(why: BufferError, out: &mut [u8]) -> usize
+    requires { ⌜ 4096 ≤ length (now out) ⌝ }
+    ensures { λ r. ⌜ r ≤ length (now (out .exit)) ⌝ }
+{
+    match why {
+        BufferError::TooLong(len) => of_one(2, len, out),
+        BufferError::NoTailRoom(width, bit_index) => of_two(9, width, bit_index, out),
+        BufferError::PastEnd(head) => of_one(10, head, out),
+        BufferError::WidthNotListed(width) => of_one(17, width, out),
+    }
 }

@@ -28,6 +28,8 @@ fn modules(tally: Tally) {
     let cases = tally.cases;
     let panics = tally.panics;
     module(b"buffer_reader", cases[0], panics[0]);
+    module(b"buffer_writer", cases[1], panics[1]);
+    module(b"side_info", cases[2], panics[2]);
 }
 
 fn module(name: &[u8], cases: u64, panics: u64) {
@@ -68,7 +70,7 @@ fn parts(kept: &[u8], r: Record)
     let case = r.case;
     let answer = r.answer;
     let end = r.end;
-    let mut ours = [0u8; 4096];
+    let mut ours = [0u8; 8192];
     let n = answers::answer(r.kind, &kept[case..answer], &mut ours);
     line(b"case ", &kept[case..answer]);
     line(b"rust ", &kept[answer..end]);
