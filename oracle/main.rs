@@ -1,16 +1,18 @@
 // The comparison program: makes cases, runs the Rust of lc3-codec on them and writes each case with the Rust's answer.
 //   oracle MODULE SEED COUNT   the systematic cases and COUNT random ones, made from SEED
 //   oracle MODULE --sample     a small fixed set, the same on every machine
+//   oracle recording FILE...   every frame of the recordings, read and written back
 
 mod cases {
     pub mod buffer_reader;
     pub mod buffer_writer;
+    pub mod recording;
     pub mod side_info;
 }
 mod lc3;
 mod records;
 
-use cases::{buffer_reader, buffer_writer, side_info};
+use cases::{buffer_reader, buffer_writer, recording, side_info};
 // the six files name these from the crate's root
 use lc3::{common, encoder, tables};
 use records::Records;
@@ -30,9 +32,14 @@ const MODULES: [Module; 3] = [
 fn main() {
     records::quiet_panics();
     let words: Vec<String> = std::env::args().skip(1).collect();
-    let module = MODULES.iter().find(|m| words.first().map_or(false, |w| w == m.name)).unwrap_or_else(|| usage());
+    let (name, rest) = words.split_first().unwrap_or_else(|| usage());
     let mut out = Records::to_stdout();
-    match &words[1..] {
+    if name == "recording" && !rest.is_empty() {
+        let frames = recording::run(&mut out, rest);
+        return out.finish(&format!("recording, {} frames of {} files", frames, rest.len()));
+    }
+    let module = MODULES.iter().find(|m| name == m.name).unwrap_or_else(|| usage());
+    match rest {
         [only] if only == "--sample" => (module.sample)(&mut out),
         [seed, count] => match (seed.parse(), count.parse()) {
             (Ok(seed), Ok(count)) => (module.run)(&mut out, seed, count),
@@ -45,6 +52,9 @@ fn main() {
 
 fn usage() -> ! {
     let names: Vec<&str> = MODULES.iter().map(|m| m.name).collect();
-    eprintln!("usage: oracle MODULE SEED COUNT | oracle MODULE --sample; MODULE is one of: {}", names.join(" "));
+    eprintln!(
+        "usage: oracle MODULE SEED COUNT | oracle MODULE --sample | oracle recording FILE...; MODULE is one of: {}",
+        names.join(" ")
+    );
     std::process::exit(2)
 }

@@ -26,9 +26,9 @@ const SHAPE_3: usize = 15_158_272;
 const END_24: usize = 16_708_096;
 
 #[derive(Clone, Copy, PartialEq, Eq, PartialOrd, Ord)]
-struct Config {
-    fs_ind: usize,
-    duration: usize,
+pub struct Config {
+    pub fs_ind: usize,
+    pub duration: usize,
 }
 
 impl Config {
@@ -222,7 +222,7 @@ fn lay(frame: &mut [u8], tail: usize, fields: &[(usize, usize)]) {
     }
 }
 
-fn put(out: &mut Records, kind: u8, of: Config, (head, tail): (usize, usize), rest: [&[u8]; 2], answer: &[u8]) {
+pub fn put(out: &mut Records, kind: u8, of: Config, (head, tail): (usize, usize), rest: [&[u8]; 2], answer: &[u8]) {
     let mut case = vec![of.fs_ind as u8, of.duration as u8];
     for cursor in [head, tail] {
         case.extend((cursor as u64).to_be_bytes());
@@ -231,10 +231,10 @@ fn put(out: &mut Records, kind: u8, of: Config, (head, tail): (usize, usize), re
     out.put(kind, &case, answer);
 }
 
-struct Read {
-    of: Config,
-    at: (usize, usize),
-    frame: Vec<u8>,
+pub struct Read {
+    pub of: Config,
+    pub at: (usize, usize),
+    pub frame: Vec<u8>,
 }
 
 impl Read {
@@ -249,7 +249,7 @@ impl Read {
     }
 
     // The answer, and how many bits were read before it.
-    fn answer(&self) -> (Vec<u8>, usize) {
+    pub fn answer(&self) -> (Vec<u8>, usize) {
         let mut reader = BufferReader::new_at(self.at.0, self.at.1);
         let result = caught(|| read(&self.frame, &mut reader, self.of.fs_ind, self.of.ne()));
         let (head, tail) = (reader.get_head_byte_cursor(), reader.get_tail_bit_cursor());
