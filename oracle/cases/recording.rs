@@ -9,7 +9,7 @@ fn field(bytes: &[u8]) -> Option<(u8, &[u8])> {
     Some((bytes[0], bytes.get(3..3 + len)?))
 }
 
-// The frames of a recording, each with the configuration in force; or the place of the first field that cannot be there.
+// The frames of a recording, each with the configuration in force; or the place of a field that cannot be there.
 fn frames(bytes: &[u8]) -> Result<Vec<(Config, &[u8])>, usize> {
     let (mut frames, mut of, mut at) = (Vec::new(), None, 0);
     while at < bytes.len() {
