@@ -1,15 +1,14 @@
 -- What each read answers, case by case: which refusal by which fact, and the value where none holds. Later proofs go by these.
 -- A refusal depends on the length, the cursor and the width alone, and a value on the places read alone. Assumes nothing.
-use Prim.Native.Nat.{ℕ, _+_, _*_, _/_, _%_, _≤_, _<_}
-use mathlib.Core.Path.{_≡_, refl, sym, ap, _∙_}
-use mathlib.Core.Bool.{Bool, true, false, not}
+use Prim.Native.Nat.{ℕ, _+_, _%_, _≤_, _<_}
+use mathlib.Core.Path.{_≡_, refl}
+use mathlib.Core.Bool.{true, false, not}
 use mathlib.Core.List.{List}
-use native.Mathlib.Omega.{arith}
 use borrow.Author.Tests.{lt-ltb, le-ltb, le-leb, lt-leb}
 use lib.Dec.{ltb, leb, eqb}
 use lib.ListN.{length, getD}
 use Rattle.common.proofs.Replies.{no-refusal, refusal-first}
-use Rattle.common.specs.Reply.{Reply, Answer, accepted, refused, wrongLength, widthNotListed, noTailRoom, headPastEnd}
+use Rattle.common.specs.Reply.{Reply, accepted, refused, wrongLength, widthNotListed, noTailRoom, headPastEnd}
 use Rattle.buffer_reader.specs.Tail.{tailBit, field}
 use Rattle.buffer_reader.specs.Reads.{takeByte, takeThree, takeBits, takeBit, threeAt, listed, fieldBeyond, bitBeyond}
 use Rattle.buffer_reader.specs.declared.Cursor.{Cursor}

@@ -1,12 +1,12 @@
 -- When a field or a bit is beyond the buffer, as the code compares it: by differences, so that any cursor is judged exactly.
 -- And what a listed width is: how many bytes it wants, and that they hold it. Assumes nothing.
 use Prim.Native.Nat.{ℕ, _+_, _-_, _*_, _/_, _%_, _≤_, _<_}
-use mathlib.Core.Path.{_≡_, refl, sym, ap, _∙_}
-use mathlib.Core.Bool.{true, false, cond, _&&_, _||_}
+use mathlib.Core.Path.{_≡_, refl, _∙_}
+use mathlib.Core.Bool.{true, false, _&&_, _||_}
 use mathlib.Core.Logic.{_⊎_, inl, inr, ⊎-elim}
 use native.Mathlib.Omega.{arith}
 use native.Mathlib.Decide.{decLt}
-use borrow.Author.Tests.{lt-ltb, le-ltb, le-leb, lt-leb, eq-eqb, ne-eqb, leb-true, leb-false, eqb-true}
+use borrow.Author.Tests.{lt-ltb, le-ltb, le-leb, lt-leb, ne-eqb, leb-true, leb-false, eqb-true}
 use lib.Dec.{ltb, leb, eqb}
 use Rattle.common.proofs.Bools.{and-left, and-right, and-second-fails, or-split, or-second, or-false, or-fails-second, same-ltb}
 use Rattle.buffer_reader.specs.Reads.{listed, bytesWanted}

@@ -1,20 +1,20 @@
 -- The laws of readings, over their making: what holds of every value that is read, and that a reading which goes forward
 -- depends on the bits between its two cursors alone. Assumes nothing.
 use Prim.Native.Nat.{ℕ, _+_, _%_, _≤_, _<_, _^_}
-use mathlib.Core.Path.{_≡_, refl, sym, ap, subst, _∙_}
+use mathlib.Core.Path.{_≡_, ap, subst, _∙_}
 use mathlib.Core.Bool.{Bool, true, false, cond, not}
 use mathlib.Core.List.{List}
 use native.Mathlib.Omega.{arith}
 use native.Mathlib.Nat.{le-of-eq, le-trans}
-use lib.Dec.{ltb, leb, eqb}
+use lib.Dec.{ltb}
 use lib.ListN.{length}
 use Rattle.common.specs.Reply.{Step, Reply, Answer, accepted, refused, given, andThen, within, wrongLength, widthNotListed, noTailRoom}
 use Rattle.common.proofs.Replies.{accepted-same, then-split, given-split, within-split}
-use Rattle.buffer_reader.specs.Tail.{tailBit, field}
+use Rattle.buffer_reader.specs.Tail.{tailBit}
 use Rattle.buffer_reader.specs.Reads.{takeBits, takeBit, listed, fieldBeyond, bitBeyond}
 use Rattle.buffer_reader.specs.Steps.{Reading, found, next, refusing, ifPresent, fieldIn, flagIn, asNumber}
 use Rattle.buffer_reader.specs.declared.Cursor.{Cursor}
-use Rattle.buffer_reader.proofs.Tails.{field-lt, field-agrees}
+use Rattle.buffer_reader.proofs.Tails.{field-lt}
 use Rattle.buffer_reader.proofs.Answers.{bits-agree, bit-agrees}
 
 -- what holds of the value of an answer, if it has one

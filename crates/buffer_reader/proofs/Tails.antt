@@ -1,7 +1,7 @@
 -- The laws of a field, over its width: it is its bits, it is below 2 to its width, n bits then m bits are n + m bits, and it
 -- depends on the bits at its places alone. Assumes nothing.
-use Prim.Native.Nat.{ℕ, zero, suc, _+_, _-_, _*_, _/_, _%_, _^_, _≤_, _<_}
-use mathlib.Core.Path.{_≡_, refl, sym, ap, _∙_}
+use Prim.Native.Nat.{ℕ, zero, suc, _+_, _-_, _*_, _/_, _%_, _^_, _<_}
+use mathlib.Core.Path.{_≡_, refl, ap, _∙_}
 use mathlib.Core.List.{List}
 use native.Mathlib.Omega.{arith}
 use native.Mathlib.Nat.{add-zero, zero-add, add-assoc, mul-assoc, pow-succ', pow-suc, two-pow-succ, one-mul, add-comm, add-mul-div-right, add-mul-mod-self-right}

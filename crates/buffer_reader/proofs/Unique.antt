@@ -1,14 +1,12 @@
 -- What an answer says decides the answer: each enum is found again from its reply, so a contract that gives the reply gives
 -- the result. Assumes nothing.
-use Prim.Native.Nat.{ℕ}
 use mathlib.Core.Path.{_≡_, refl, ap}
-use mathlib.Core.Bool.{Bool, cond}
+use mathlib.Core.Bool.{cond}
 use lib.Dec.{eqb}
 use lib.ListN.{getD}
 use Rattle.common.specs.Reply.{Reply, Answer, accepted, refused}
 use Rattle.common.proofs.Unique.{from-back}
 use Rattle.buffer_reader.specs.Reads.{replyOf, byteOf, threeOf, bitsOf, bitOf}
-use Rattle.buffer_reader.specs.declared.Cursor.{Cursor}
 use Rattle.buffer_reader.specs.declared.BufferError.{BufferError}
 use Rattle.buffer_reader.specs.declared.BufferError.the-variants.{TooLong, WidthNotListed, NoTailRoom, PastEnd}
 use Rattle.buffer_reader.specs.declared.ByteRead.{ByteRead}

@@ -1,6 +1,6 @@
 -- Document 01, "Modules in port order", 1: what each read answers, at any cursor of any buffer. Sums are exact.
 use Prim.Native.Nat.{ℕ, _+_, _*_, _/_, _%_, _-_}
-use mathlib.Core.Bool.{Bool, true, false, cond, not, _&&_, _||_}
+use mathlib.Core.Bool.{Bool, cond, not, _&&_, _||_}
 use mathlib.Core.List.{List}
 use lib.Dec.{leb, ltb, eqb}
 use lib.ListN.{length, getD}

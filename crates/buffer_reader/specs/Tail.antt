@@ -17,7 +17,8 @@ unfoldable pub field : List ℕ → ℕ → ℕ → ℕ
 field f i zero = 0
 field f i (suc n) = tailBit f i + 2 * field f (i + 1) n
 
--- k bytes from place j from the end on, as one number, the byte nearest the end lowest
+-- k bytes from place j from the end on, as one number, the byte nearest the end lowest: what the code gathers before it cuts
+-- a field out; no read's answer speaks of it
 unfoldable pub tailNumber : List ℕ → ℕ → ℕ → ℕ
 tailNumber f j zero = 0
 tailNumber f j (suc k) = tailByte f j + 256 * tailNumber f (j + 1) k

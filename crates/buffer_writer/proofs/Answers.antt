@@ -1,7 +1,7 @@
 -- What each write answers and what the buffer then holds, case by case. Assumes nothing.
-use Prim.Native.Nat.{ℕ, _+_, _-_, _*_, _%_, _≤_, _<_}
+use Prim.Native.Nat.{ℕ, _+_, _-_, _%_, _≤_, _<_}
 use mathlib.Core.Path.{_≡_, refl}
-use mathlib.Core.Bool.{Bool, true, false, not, _&&_}
+use mathlib.Core.Bool.{Bool, true, false, _&&_}
 use mathlib.Core.List.{List}
 use native.Mathlib.Omega.{arith}
 use borrow.Author.Tests.{lt-ltb, le-ltb, le-leb, lt-leb}
@@ -13,11 +13,11 @@ use Rattle.buffer_reader.specs.Reads.{listed}
 use Rattle.buffer_reader.specs.declared.Cursor.{Cursor}
 use Rattle.buffer_writer.specs.Writes.{writeField, writeBit, writeByte, writeTop, fieldWritten, bitWritten, byteWritten, topWritten, beyondStart, putField, putBit, withTop, oneIf}
 
-pub start-passed : (len place n : ℕ) → 8 * len < n → ltb (8 * len) (place + n) ≡ true
-start-passed len place n h = lt-ltb (8 * len) (place + n) (omega arith)
+pub start-passed : (bits place n : ℕ) → bits < n → ltb bits (place + n) ≡ true
+start-passed bits place n h = lt-ltb bits (place + n) (omega arith)
 
-pub start-judged : (len place n : ℕ) → n ≤ 8 * len → ltb (8 * len - n) place ≡ ltb (8 * len) (place + n)
-start-judged len place n h = same-ltb (8 * len - n) place (8 * len) (place + n) (λ e. omega arith) (λ e. omega arith)
+pub start-judged : (bits place n : ℕ) → n ≤ bits → ltb (bits - n) place ≡ ltb bits (place + n)
+start-judged bits place n h = same-ltb (bits - n) place bits (place + n) (λ e. omega arith) (λ e. omega arith)
 
 module _ (f : List ℕ) (c : Cursor) (v n : ℕ) where
   pub field-long : 65535 < length f → (refused (wrongLength (length f)) ≡ writeField f c n) × (f ≡ fieldWritten f c v n)

@@ -1,7 +1,7 @@
 -- What was written at a place is what the reader's definition finds there, and a write at other places does not disturb it:
 -- over the width of a field, and for head bytes where they share no bit with the tail. Assumes nothing.
 use Prim.Native.Nat.{ℕ, zero, suc, _+_, _-_, _*_, _/_, _%_, _^_, _≤_, _<_}
-use mathlib.Core.Path.{_≡_, refl, sym, ap, subst, _∙_}
+use mathlib.Core.Path.{_≡_, refl, sym, ap, _∙_}
 use mathlib.Core.List.{List}
 use mathlib.Core.Logic.{_⊎_, inl, inr, ⊎-elim}
 use native.Mathlib.Omega.{arith}
@@ -10,8 +10,8 @@ use lib.ListN.{length, getD, set, length-set}
 use lib.Seq.{getD-set-same, getD-set-other, set-out}
 use Rattle.buffer_reader.specs.Tail.{tailByte, tailBit, field}
 use Rattle.buffer_reader.proofs.Tails.{field-none, field-more, field-agrees, cut-more}
-use Rattle.buffer_writer.specs.Writes.{withBit, withTop, putBit, putField}
-use Rattle.buffer_writer.proofs.Bytes.{with-bit-lt, with-bit-same, with-bit-other, with-top-other}
+use Rattle.buffer_writer.specs.Writes.{withBit, putBit, putField}
+use Rattle.buffer_writer.proofs.Bytes.{with-bit-lt, with-bit-same, with-bit-other}
 
 -- each element is a byte
 abbrev pub Bytes : List ℕ → Type 0

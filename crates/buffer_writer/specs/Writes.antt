@@ -1,11 +1,11 @@
 -- Document 01, "Modules in port order", 2: what each write answers, at any cursor of any buffer, and the whole buffer behind
 -- it. Sums are exact. Places, fields and the list of widths are the reader's.
 use Prim.Native.Nat.{ℕ, zero, suc, _+_, _-_, _*_, _/_, _%_, _^_}
-use mathlib.Core.Bool.{Bool, true, false, cond, not, _&&_}
+use mathlib.Core.Bool.{Bool, cond, not, _&&_}
 use mathlib.Core.List.{List}
 use lib.Dec.{leb, ltb}
 use lib.ListN.{length, getD, set}
-use Rattle.common.specs.Reply.{Reply, Answer, accepted, refused, given, unlessRefused, widthNotListed, noTailRoom, headPastEnd}
+use Rattle.common.specs.Reply.{Answer, accepted, refused, given, unlessRefused, widthNotListed, noTailRoom, headPastEnd}
 use Rattle.buffer_reader.specs.Tail.{tailByte}
 use Rattle.buffer_reader.specs.Reads.{tooLong, listed, replyOf}
 use Rattle.buffer_reader.specs.declared.Cursor.{Cursor}

@@ -1,8 +1,20 @@
-// Writes at the tail whose room the caller has shown.
+// The room at the tail, and writes whose room the caller has shown.
 ghost use mathlib.Core.Path.{_≡_};
 ghost use Prim.Native.Nat.{_+_, _*_, _≤_, _<_};
+ghost use lib.Dec.{ltb};
 ghost use lib.ListN.{length};
 ghost use Rattle.buffer_writer.specs.Writes.{putBit, putField};
+
+// Whether so many bits from a place on pass the start of a buffer that has `bits`, by a difference, since the place may be any
+// number.
+pub fn beyond(bits: usize, place: usize, num_bits: usize) -> bool
+    ensures { λ r. ⌜ r ≡ ltb bits (place + «num_bits») ⌝ }
+{
+    if bits < num_bits {
+        return true;
+    }
+    bits - num_bits < place
+}
 
 pub fn put_bit(buf: &mut [u8], place: usize, bit: u32)
     requires { ⌜ (place < 8 * length (now buf)) × (bit < 2) ⌝ }

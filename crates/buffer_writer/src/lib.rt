@@ -27,7 +27,7 @@ pub fn write_uint_backward(buf: &mut [u8], at: Cursor, val: u32, num_bits: usize
         return Written::Refused(BufferError::WidthNotListed(num_bits));
     }
     let place = at.tail;
-    if tail::beyond_start(len, place, num_bits) {
+    if inner::beyond(8 * len, place, num_bits) {
         return Written::Refused(BufferError::NoTailRoom(num_bits, place % 8));
     }
     inner::put_field(buf, place, val, num_bits);
@@ -47,7 +47,7 @@ pub fn write_bool_backward(buf: &mut [u8], at: Cursor, bit: bool) -> Written
         return Written::Refused(BufferError::TooLong(len));
     }
     let place = at.tail;
-    if tail::beyond_start(len, place, 1) {
+    if inner::beyond(8 * len, place, 1) {
         return Written::Refused(BufferError::NoTailRoom(1, place % 8));
     }
     inner::put_bit(buf, place, tail::one_if(bit));

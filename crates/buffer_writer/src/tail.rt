@@ -1,20 +1,7 @@
-// A byte with some of its bits replaced, and the room at the tail.
+// A byte with some of its bits replaced.
 ghost use mathlib.Core.Path.{_≡_};
-ghost use Prim.Native.Nat.{_+_, _*_, _^_, _≤_, _<_};
-ghost use lib.Dec.{ltb};
+ghost use Prim.Native.Nat.{_^_, _≤_, _<_};
 ghost use Rattle.buffer_writer.specs.Writes.{withBit, withTop, oneIf};
-
-// Whether the bits pass the buffer's start, by a difference, since the cursor may be any number.
-pub(crate) fn beyond_start(len: usize, place: usize, num_bits: usize) -> bool
-    requires { ⌜ (len ≤ 65535) × («num_bits» ≤ 25) ⌝ }
-    ensures { λ r. ⌜ r ≡ ltb (8 * len) (place + «num_bits») ⌝ }
-{
-    let bits = 8 * len;
-    if bits < num_bits {
-        return true;
-    }
-    bits - num_bits < place
-}
 
 pub(crate) fn one_if(bit: bool) -> u32
     ensures { λ r. ⌜ (r ≡ oneIf bit) × (r < 2) ⌝ }

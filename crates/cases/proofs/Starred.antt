@@ -1,8 +1,7 @@
 -- The one statement: in every row of the table the definitions give what document 01 states. It is computed.
 -- Assumes nothing.
 use mathlib.Core.Path.{_≡_, refl}
-use mathlib.Core.List.{List, map}
-use Prim.Native.Nat.{ℕ}
+use mathlib.Core.List.{map}
 use Rattle.common.specs.Tables.{total}
 use Rattle.common.specs.Flat.{tabulate}
 use Rattle.buffer_reader.specs.Tail.{field}

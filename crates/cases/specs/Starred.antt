@@ -1,6 +1,6 @@
 -- Document 01, "Checked by hand", the starred cases as far as the modules define them: a row is what the definitions give,
 -- then what document 01 says.
-use Prim.Native.Nat.{ℕ, _+_, _-_, _*_, _/_}
+use Prim.Native.Nat.{ℕ, _-_, _*_, _/_}
 use mathlib.Core.List.{List, [], _∷_}
 use lib.ListN.{getD, take, replicate}
 use Rattle.common.specs.Reply.{Answer, accepted, refused}

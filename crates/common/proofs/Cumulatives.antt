@@ -1,8 +1,8 @@
 -- The laws of a row's cumulatives: each entry adds itself, they rise in a row that passes, and end at 1,024. And of the rows of
 -- a part that passes: each of them passes. Assumes nothing.
 use Prim.Native.Nat.{ℕ, zero, suc, _+_, _-_, _*_, _≤_, _<_}
-use mathlib.Core.Path.{_≡_, refl, sym, ap, _∙_}
-use mathlib.Core.Bool.{true, _&&_}
+use mathlib.Core.Path.{_≡_, refl, ap, _∙_}
+use mathlib.Core.Bool.{true}
 use mathlib.Core.List.{List, [], _∷_, _++_}
 use native.Mathlib.Omega.{arith}
 use native.Mathlib.Numerals.{add-one}
@@ -11,7 +11,7 @@ use borrow.Author.Tests.{eqb-true, leb-true}
 use lib.Dec.{leb, eqb}
 use lib.ListN.{length, getD, take, drop}
 use lib.Seq.{take-suc, take-all, drop-drop}
-use Rattle.common.specs.Tables.{total, allAtLeast, rowPasses, rowsPass, partPasses, cumulative}
+use Rattle.common.specs.Tables.{total, allAtLeast, rowPasses, rowsPass, cumulative}
 use Rattle.common.proofs.Bools.{and-left, and-right}
 
 pub total-append : (xs ys : List ℕ) → total (xs ++ ys) ≡ total xs + total ys

@@ -1,9 +1,9 @@
 -- One turn of each check of the table set: what is left to judge at a place, by the entry there and what is left behind it.
 -- Assumes nothing.
 use Prim.Native.Nat.{ℕ, zero, suc, _+_, _-_, _*_, _≤_, _<_}
-use mathlib.Core.Path.{_≡_, refl, sym, ap, _∙_}
+use mathlib.Core.Path.{_≡_, refl, ap}
 use mathlib.Core.Bool.{Bool, true, false, _&&_}
-use mathlib.Core.List.{List, [], _∷_}
+use mathlib.Core.List.{List}
 use native.Mathlib.Omega.{arith}
 use native.Mathlib.Numerals.{add-one}
 use native.Mathlib.Nat.{zero-add, add-zero, add-assoc, suc-mul, add-sub-cancel-left}
@@ -11,7 +11,7 @@ use borrow.Author.Tests.{eq-eqb, ne-eqb, lt-leb, le-leb}
 use lib.Dec.{leb, eqb}
 use lib.ListN.{length, getD, take, drop, drop-of-length-le}
 use lib.Seq.{drop-cons, drop-drop}
-use Rattle.common.specs.Tables.{total, allAtLeast, allAtMost, rowPasses, rowsPass, lookupPasses, partPasses, cumulative}
+use Rattle.common.specs.Tables.{total, allAtLeast, allAtMost, rowPasses, rowsPass, lookupPasses, partPasses}
 use Rattle.common.proofs.Bools.{and-assoc, and-false}
 
 -- what is left to judge of a row when its first entries total t

@@ -1,7 +1,7 @@
 -- Document 01, "Configuration and table set", first paragraph: the limits of a configuration, and its encoded lines `ne`.
 use Prim.Native.Nat.{ℕ}
-use mathlib.Core.Bool.{Bool, true, false, not, _&&_}
-use mathlib.Core.List.{List, [], _∷_}
+use mathlib.Core.Bool.{Bool, not, _&&_}
+use mathlib.Core.List.{[], _∷_}
 use lib.Dec.{leb}
 use lib.ListN.{getD}
 use Rattle.common.specs.Reply.{Answer, accepted, refused, given, outsideLimits}

@@ -40,7 +40,7 @@ abbrev pub within : {A : Type 0} → Step → Answer A → Answer A
 within place (accepted a) = accepted a
 within place (refused r) = refused (record { number = r .number; values = r .values; step = place })
 
--- "a refused call changes no lent memory": what the memory holds behind an answer, by what it held and what would be written
+-- "all lent memory keeps its contents": what it holds behind an answer, by what it held and what would be written
 abbrev pub unlessRefused : {A : Type 0} → Answer A → List ℕ → List ℕ → List ℕ
 unlessRefused (accepted a) before written = written
 unlessRefused (refused r) before written = before

@@ -16,7 +16,7 @@ use Rattle.buffer_reader.specs.Steps.{Reading, ifPresent}
 use Rattle.buffer_reader.specs.declared.Cursor.{Cursor}
 use Rattle.buffer_reader.proofs.Steps.{Holds, holds-at, holds-given, holds-then, field-holds, flag-holds}
 use Rattle.side_info.specs.Joint.{snsOf25, snsOf24, snsOf}
-use Rattle.side_info.specs.Record.{mostIf, shapeOf, gainMost, idxMost, snsPasses, sidePasses}
+use Rattle.side_info.specs.Record.{mostIf, snsPasses, sidePasses}
 use Rattle.side_info.specs.Reader.{sideField, sideFlag, bandwidthBits, readBandwidth, lastnzBits, readLastnz, readJoint, fromFilter, fromShape, fromSns, fromFlags, fromLevel, readAll, frameLength, readSide}
 use Rattle.side_info.specs.declared.Sns.{Sns}
 use Rattle.side_info.specs.declared.SideInfo.{SideInfo}

@@ -1,18 +1,18 @@
 -- One turn of the two loops over the fields, by the place in their lists, and when a field passes the start.
 -- Assumes nothing.
-use Prim.Native.Nat.{ℕ, zero, suc, _+_, _-_, _%_, _≤_, _<_}
-use mathlib.Core.Path.{_≡_, refl, sym, ap, _∙_}
-use mathlib.Core.Bool.{Bool, true, false, _&&_}
-use mathlib.Core.List.{List, [], _∷_}
+use Prim.Native.Nat.{ℕ, zero, suc, _+_, _%_, _≤_, _<_}
+use mathlib.Core.Path.{_≡_, refl, sym, _∙_}
+use mathlib.Core.Bool.{false, _&&_}
+use mathlib.Core.List.{List}
 use native.Mathlib.Omega.{arith}
 use native.Mathlib.Numerals.{add-one}
-use borrow.Author.Tests.{le-leb, lt-ltb, ltb-false}
+use borrow.Author.Tests.{le-leb, ltb-false}
 use lib.Dec.{leb, ltb}
 use lib.ListN.{length, getD, drop, drop-of-length-le}
 use lib.Seq.{drop-cons}
-use Rattle.common.specs.Reply.{Answer, accepted, refused, given, noTailRoom}
+use Rattle.common.specs.Reply.{accepted, given, noTailRoom}
 use Rattle.common.specs.Tables.{total}
-use Rattle.common.proofs.Bools.{same-ltb, and-first-holds}
+use Rattle.common.proofs.Bools.{and-first-holds}
 use Rattle.buffer_writer.specs.Writes.{putField}
 use Rattle.side_info.specs.Layout.{roomFor, putFields}
 
@@ -20,13 +20,8 @@ use Rattle.side_info.specs.Layout.{roomFor, putFields}
 pub start-absent : (bits tail w : ℕ) → w ≡ 0 → (leb 1 w && ltb bits (tail + w)) ≡ false
 start-absent bits tail w e = rw e refl
 
-pub start-narrow : (bits tail w : ℕ) → (w ≡ 0 → ⊥) → bits < w → (leb 1 w && ltb bits (tail + w)) ≡ true
-start-narrow bits tail w e h = rw (le-leb 1 w (omega (arith, e)), lt-ltb bits (tail + w) (omega arith)) refl
-
-pub start-difference : (bits tail w : ℕ) → (w ≡ 0 → ⊥) → w ≤ bits → ltb (bits - w) tail ≡ (leb 1 w && ltb bits (tail + w))
-start-difference bits tail w e h =
-    same-ltb (bits - w) tail bits (tail + w) (λ p. omega arith) (λ p. omega arith) ∙
-    sym (and-first-holds (ltb bits (tail + w)) (le-leb 1 w (omega (arith, e))))
+pub start-there : (bits tail w : ℕ) → (w ≡ 0 → ⊥) → (leb 1 w && ltb bits (tail + w)) ≡ ltb bits (tail + w)
+start-there bits tail w e = and-first-holds (ltb bits (tail + w)) (le-leb 1 w (omega (arith, e)))
 
 -- a field that does not pass the start leaves the tail below any number that the start and the tail are below
 pub start-bounded : (bits tail w most : ℕ) → bits < most → tail < most → (leb 1 w && ltb bits (tail + w)) ≡ false → tail + w < most

@@ -1,7 +1,6 @@
 -- What an answer of the side information's reader or writer says decides the answer: a buffer's refusal by its step, the others
 -- by their numbers. Assumes nothing.
-use Prim.Native.Nat.{ℕ}
-use mathlib.Core.Path.{_≡_, refl, ap}
+use mathlib.Core.Path.{_≡_, refl}
 use mathlib.Core.Bool.{Bool, true, false, cond}
 use lib.Dec.{eqb}
 use lib.ListN.{getD}
@@ -10,7 +9,7 @@ use Rattle.common.proofs.Unique.{from-back}
 use Rattle.buffer_reader.specs.declared.BufferError.the-variants.{TooLong, WidthNotListed, NoTailRoom, PastEnd}
 use Rattle.buffer_reader.specs.declared.Cursor.{Cursor}
 use Rattle.buffer_reader.proofs.Unique.{errorBack}
-use Rattle.side_info.specs.Reader.{replyOf, sideOf}
+use Rattle.side_info.specs.Reader.{sideOf}
 use Rattle.side_info.specs.Writer
 use Rattle.side_info.specs.declared.SideInfo.{SideInfo}
 use Rattle.side_info.specs.declared.fields.SideInfoError.{SideInfoError}

@@ -8,7 +8,7 @@ use native.Mathlib.Omega.{arith}
 use native.Mathlib.Nat.{lt-of-lt-of-le}
 use lib.Dec.{leb, eqb}
 use lib.Pow.{pow-mono}
-use Rattle.common.specs.Reply.{Answer, accepted, side, jointTooLarge25, jointTooLarge24}
+use Rattle.common.specs.Reply.{accepted, side, jointTooLarge25, jointTooLarge24}
 use Rattle.buffer_reader.specs.Steps.{found, refusing}
 use Rattle.buffer_reader.specs.declared.Cursor.{Cursor}
 use Rattle.buffer_reader.proofs.Steps.{Holds, holds-at, holds-given, holds-then, field-holds, flag-holds}

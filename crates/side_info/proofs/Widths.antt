@@ -1,13 +1,10 @@
 -- The widths of the bandwidth and of the last nonzero pair, as the code finds them, and that each is listed.
 -- Assumes nothing.
 use Prim.Native.Nat.{ℕ, zero, suc, _+_, _-_, _/_, _≤_, _<_, _^_}
-use mathlib.Core.Path.{_≡_, refl, sym, _∙_}
-use mathlib.Core.Bool.{true, cond}
+use mathlib.Core.Path.{_≡_, refl, _∙_}
 use native.Mathlib.Omega.{arith}
 use native.Mathlib.Decide.{decLe}
 use borrow.Author.Tests.{le-leb, lt-leb}
-use lib.Dec.{leb}
-use Rattle.buffer_reader.specs.Reads.{listed}
 use Rattle.side_info.specs.Reader.{bandwidthBits, leastWidth, lastnzBits}
 
 pub bandwidth-low : (fs : ℕ) → fs < 3 → bandwidthBits fs ≡ fs

@@ -1,11 +1,11 @@
 -- Document 01, "Side information": the second stage out of the joint index J, and J out of the second stage. The shape is
 -- 2*msb + submode_lsb.
 use Prim.Native.Nat.{ℕ, _+_, _-_, _*_, _/_, _%_}
-use mathlib.Core.Bool.{Bool, cond}
+use mathlib.Core.Bool.{cond}
 use lib.Dec.{ltb, eqb}
 use Rattle.side_info.specs.declared.Sns.{Sns}
 
--- "msb 0: q = J/2390004, idx_a the remainder. q < 2: submode_lsb 1, gain = 2*part + q. Otherwise with w = q-2: idx_b = w/2, ls_indb = w mod 2"
+-- "msb 0: .. q = J/2390004, idx_a the remainder. q < 2: submode_lsb 1, gain = 2*part + q. Otherwise with w = q-2: idx_b = w/2, ls_indb = w mod 2"
 abbrev pub snsOf25 : ℕ → ℕ → ℕ → ℕ → ℕ → ℕ → Sns
 snsOf25 lf hf part lsInda q rest =
     cond (ltb q 2)
@@ -32,7 +32,7 @@ snsOf25 lf hf part lsInda q rest =
       «idx_b» = (q - 2) / 2;
     })
 
--- "msb 1: J >= 15158272: with j = J-15158272, submode_lsb 1, gain = 2*part + j mod 2, idx_a = j/2. Otherwise idx_a = J"
+-- "msb 1: .. J >= 15158272: with j = J-15158272, submode_lsb 1, gain = 2*part + j mod 2, idx_a = j/2. Otherwise idx_a = J"
 abbrev pub snsOf24 : ℕ → ℕ → ℕ → ℕ → ℕ → Sns
 snsOf24 lf hf part lsInda j =
     cond (ltb j 15158272)

@@ -1,7 +1,7 @@
 -- Document 01, "Side information, in order from the tail": the fields that the writer lays behind one another, each with its
 -- width; a field that is absent has width 0.
-use Prim.Native.Nat.{ℕ, _+_, _-_, _*_, _/_, _%_}
-use mathlib.Core.Bool.{Bool, _&&_}
+use Prim.Native.Nat.{ℕ, _+_, _-_, _/_, _%_}
+use mathlib.Core.Bool.{_&&_}
 use mathlib.Core.List.{List, [], _∷_}
 use lib.Dec.{leb, ltb, eqb}
 use Rattle.common.specs.Reply.{Answer, accepted, given, noTailRoom}

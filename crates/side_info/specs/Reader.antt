@@ -1,10 +1,10 @@
 -- Document 01, "Side information, in order from the tail": what is read, field after field.
 use Prim.Native.Nat.{ℕ, zero, suc, _+_, _-_, _*_, _/_, _^_}
-use mathlib.Core.Bool.{Bool, true, false, cond, not, _&&_}
-use mathlib.Core.List.{List, [], _∷_}
+use mathlib.Core.Bool.{Bool, cond, not, _&&_}
+use mathlib.Core.List.{[], _∷_}
 use lib.Dec.{leb, ltb, eqb}
 use lib.ListN.{length, getD}
-use Rattle.common.specs.Reply.{Step, side, Reply, Answer, accepted, refused, given, outsideLimits, wrongLength, bandwidthTooLarge, lastnzTooLarge, jointTooLarge25, jointTooLarge24}
+use Rattle.common.specs.Reply.{side, Reply, Answer, accepted, refused, given, outsideLimits, wrongLength, bandwidthTooLarge, lastnzTooLarge, jointTooLarge25, jointTooLarge24}
 use Rattle.common.specs.Configuration.{configurationPasses, ne}
 use Rattle.common.specs.declared.configuration.Configuration.{Configuration}
 use Rattle.buffer_reader.specs.Reads

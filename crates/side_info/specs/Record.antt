@@ -1,8 +1,8 @@
--- Document 01, refusal 13: "side field outside what the reader can return beside the record's other fields, or nonzero where
--- absent". A field is within 0 and the most that stands here.
+-- Document 01, refusal 13: "side or TNS field outside what the reader can return beside the record's other fields, or nonzero
+-- where absent", of the side fields: each is within 0 and the most that stands here.
 use Prim.Native.Nat.{ℕ, _+_, _*_, _%_}
 use mathlib.Core.Bool.{Bool, cond, _&&_}
-use mathlib.Core.List.{List, [], _∷_}
+use mathlib.Core.List.{[], _∷_}
 use lib.Dec.{leb, eqb}
 use lib.ListN.{getD}
 use Rattle.side_info.specs.declared.Sns.{Sns}

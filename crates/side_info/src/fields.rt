@@ -1,6 +1,6 @@
 // One field of the side information each: a number and the next cursor, or the refusal.
 ghost use mathlib.Core.Path.{_≡_};
-ghost use Prim.Native.Nat.{_+_, _*_, _^_, _≤_, _<_};
+ghost use Prim.Native.Nat.{_^_, _≤_, _<_};
 ghost use Rattle.side_info.specs.Joint.{snsOf, snsOf25};
 ghost use Rattle.side_info.specs.Reader.{numberOf, sideField, sideFlag, readBandwidth, readLastnz, readJoint, bandwidthBits};
 ghost use Rattle.side_info.specs.Reader.{lastnzBits as Reader·lastnzBits};

@@ -112,17 +112,14 @@ fn room_for(bits: usize, place: usize, widths: &[usize; 16]) -> Room
     Room::Fits(tail)
 }
 
-// Whether a field that is there passes the start, by a difference, since the tail may be any number.
+// Whether a field that is there passes the start.
 fn passes_start(bits: usize, tail: usize, width: usize) -> bool
     ensures { λ r. ⌜ r ≡ (leb 1 width && ltb bits (tail + width)) ⌝ }
 {
     if width == 0 {
         return false;
     }
-    if bits < width {
-        return true;
-    }
-    bits - width < tail
+    buffer_writer::inner::beyond(bits, tail, width)
 }
 
 fn put_fields(buf: &mut [u8], place: usize, values: &[u32; 16], widths: &[usize; 16])

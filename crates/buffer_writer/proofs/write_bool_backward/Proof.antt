@@ -14,20 +14,23 @@ use Rattle.buffer_writer.proofs.write_bool_backward.Tie as tie
 room : (c : tie.Else2) → c .before .before .before .before .args .at .tail < 8 * length (c .before .before .before .before .args .buf .now)
 room c =
     let a = c .before .before .before .before .args in
-    omega (arith, ltb-false (8 * length (a .buf .now)) (a .at .tail + 1) (sym (c .before .beyond-start .ensures) ∙ c .if2 .left))
+    omega (arith, ltb-false (8 * length (a .buf .now)) (a .at .tail + 1) (sym (c .before .beyond .ensures) ∙ c .if2 .left))
 
 returns : tie.Need-returns
 returns c =
     let a = c .before .before .args in
     bit-long (a .buf .now) (a .at) (a .bit) (c .if1 .taken)
 
-beyond-start-requires : tie.Need-beyond-start-requires
-beyond-start-requires c κs = search needs
+mul-beyond : tie.Need-mul-beyond
+mul-beyond c = search needs
+
+beyond-requires : tie.Need-beyond-requires
+beyond-requires c κs = search needs
 
 returns-2 : tie.Need-returns-2
 returns-2 c =
     let a = c .before .before .before .before .args in
-    bit-beyond (a .buf .now) (a .at) (a .bit) (c .before .before .if1 .left) (sym (c .before .beyond-start .ensures) ∙ c .if2 .taken)
+    bit-beyond (a .buf .now) (a .at) (a .bit) (c .before .before .if1 .left) (sym (c .before .beyond .ensures) ∙ c .if2 .taken)
 
 one-if-requires : tie.Need-one-if-requires
 one-if-requires c κs = search needs
@@ -35,8 +38,8 @@ one-if-requires c κs = search needs
 put-bit-requires : tie.Need-put-bit-requires
 put-bit-requires c κs = (room (c .before .before), c .one-if .ensures .1)
 
-add-t15 : tie.Need-add-t15
-add-t15 c = omega (arith, room (c .before .before .before .before .before))
+add-t9 : tie.Need-add-t9
+add-t9 c = omega (arith, room (c .before .before .before .before .before))
 
 same-length : tie.Need-same-length
 same-length c = search needs
@@ -45,17 +48,18 @@ returns-3 : tie.Need-returns-3
 returns-3 c =
     let a = c .before .before .before .before .before .before .before .before .before .args in
     rw (c .before .before .put-bit .ensures, c .before .before .before .one-if .ensures .0)
-    (bit-put (a .buf .now) (a .at) (a .bit) (c .before .before .before .before .before .before .before .if1 .left) (sym (c .before .before .before .before .before .before .beyond-start .ensures) ∙ c .before .before .before .before .before .if2 .left))
+    (bit-put (a .buf .now) (a .at) (a .bit) (c .before .before .before .before .before .before .before .if1 .left) (sym (c .before .before .before .before .before .before .beyond .ensures) ∙ c .before .before .before .before .before .if2 .left))
 
 pub write-bool-backward-spec : {M : Type 1} → statement M
 write-bool-backward-spec =
     tie.close
     (tie.spec
     returns
-    beyond-start-requires
+    mul-beyond
+    beyond-requires
     returns-2
     one-if-requires
     put-bit-requires
-    add-t15
+    add-t9
     same-length
     returns-3)

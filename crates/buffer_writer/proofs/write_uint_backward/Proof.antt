@@ -8,7 +8,6 @@ use borrow.Author.Tests.{ltb-false}
 use lib.ListN.{length}
 use Rattle.common.proofs.Bools.{refuted, confirmed}
 use Rattle.buffer_reader.specs.Reads.{listed}
-use Rattle.buffer_reader.proofs.Rooms.{width-limits}
 use Rattle.buffer_writer.proofs.Answers.{field-long, field-unlisted, field-beyond, field-put}
 use borrow.Author.Needs.{needs}
 use Rattle.buffer_writer.proofs.write_uint_backward.Statement.{statement}
@@ -20,7 +19,7 @@ width-ok c = confirmed (c .before .listed .ensures) (c .if2 .left)
 
 -- past the room's check
 room : (c : tie.Else3) → c .before .before .before .before .before .before .args .at .tail + c .before .before .before .before .before .before .args .num-bits ≤ 8 * length (c .before .before .before .before .before .before .args .buf .now)
-room c = ltb-false _ _ (sym (c .before .beyond-start .ensures) ∙ c .if3 .left)
+room c = ltb-false _ _ (sym (c .before .beyond .ensures) ∙ c .if3 .left)
 
 returns : tie.Need-returns
 returns c =
@@ -35,19 +34,22 @@ returns-2 c =
     let a = c .before .before .before .before .args in
     field-unlisted (a .buf .now) (a .at) (a .val) (a .num-bits) (c .before .before .if1 .left) (refuted (c .before .listed .ensures) (c .if2 .taken))
 
-beyond-start-requires : tie.Need-beyond-start-requires
-beyond-start-requires c κs = (c .before .before .if1 .left, width-limits _ (width-ok c) .1)
+mul-beyond : tie.Need-mul-beyond
+mul-beyond c = search needs
+
+beyond-requires : tie.Need-beyond-requires
+beyond-requires c κs = search needs
 
 returns-3 : tie.Need-returns-3
 returns-3 c =
     let a = c .before .before .before .before .before .before .args in
-    field-beyond (a .buf .now) (a .at) (a .val) (a .num-bits) (c .before .before .before .before .if1 .left) (width-ok (c .before .before)) (sym (c .before .beyond-start .ensures) ∙ c .if3 .taken)
+    field-beyond (a .buf .now) (a .at) (a .val) (a .num-bits) (c .before .before .before .before .if1 .left) (width-ok (c .before .before)) (sym (c .before .beyond .ensures) ∙ c .if3 .taken)
 
 put-field-requires : tie.Need-put-field-requires
 put-field-requires c κs = (c .before .before .before .before .before .if1 .left, room (c .before))
 
-add-t17 : tie.Need-add-t17
-add-t17 c = omega (arith, room (c .before .before .before .before))
+add-t12 : tie.Need-add-t12
+add-t12 c = omega (arith, room (c .before .before .before .before))
 
 same-length : tie.Need-same-length
 same-length c = search needs
@@ -56,7 +58,7 @@ returns-4 : tie.Need-returns-4
 returns-4 c =
     let a = c .before .before .before .before .before .before .before .before .before .before .args in
     rw (c .before .before .put-field .ensures)
-    (field-put (a .buf .now) (a .at) (a .val) (a .num-bits) (c .before .before .before .before .before .before .before .before .if1 .left) (width-ok (c .before .before .before .before .before .before)) (sym (c .before .before .before .before .before .beyond-start .ensures) ∙ c .before .before .before .before .if3 .left))
+    (field-put (a .buf .now) (a .at) (a .val) (a .num-bits) (c .before .before .before .before .before .before .before .before .if1 .left) (width-ok (c .before .before .before .before .before .before)) (sym (c .before .before .before .before .before .beyond .ensures) ∙ c .before .before .before .before .if3 .left))
 
 pub write-uint-backward-spec : {M : Type 1} → statement M
 write-uint-backward-spec =
@@ -65,9 +67,10 @@ write-uint-backward-spec =
     returns
     listed-requires
     returns-2
-    beyond-start-requires
+    mul-beyond
+    beyond-requires
     returns-3
     put-field-requires
-    add-t17
+    add-t12
     same-length
     returns-4)

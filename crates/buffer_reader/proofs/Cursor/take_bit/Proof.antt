@@ -1,7 +1,7 @@
 -- `Cursor::take_bit` meets its contract: the checks are the definition's, in its order, and the bit is the one at the tail cursor.
 -- Assumes nothing.
 use Prim.Native.Nat.{_/_, _<_}
-use mathlib.Core.Path.{_≡_, sym, _∙_}
+use mathlib.Core.Path.{sym, _∙_}
 use native.Mathlib.Omega.{arith}
 use lib.ListN.{length}
 use Rattle.buffer_reader.proofs.Rooms.{bit-room}

@@ -1,6 +1,6 @@
 -- `inner::put_field` meets its contract: what is left to write, of the value's bits that are left, makes the same buffer.
 -- Assumes nothing.
-use Prim.Native.Nat.{_+_, _*_, _%_}
+use Prim.Native.Nat.{_+_, _%_}
 use mathlib.Core.Path.{_≡_, refl, sym, _∙_}
 use native.Mathlib.Omega.{arith}
 use lib.ListN.{length}

@@ -1,10 +1,9 @@
 -- `flat::fill_lookup` meets its contract: the entries before place i are the flat ones, and a turn adds the one at i.
 -- Assumes nothing.
 use Prim.Native.Nat.{_≤_, _-_, _%_}
-use mathlib.Core.Path.{_≡_, sym, ap, _∙_}
+use mathlib.Core.Path.{_≡_}
 use native.Mathlib.Omega.{arith}
 use lib.ListN.{length, take, length-set}
-use lib.Seq.{take-all}
 use Rattle.common.specs.Flat.{flatLookup}
 use Rattle.common.proofs.Fills.{fill-none, fill-one, fill-all}
 use Rattle.common.proofs.flat.fill_lookup.Statement.{statement}

@@ -1,7 +1,7 @@
 -- `flat::fill_rows` meets its contract: the entries before place i are those of the rows, and a turn adds the one at i.
 -- Assumes nothing.
 use Prim.Native.Nat.{_≤_, _-_}
-use mathlib.Core.Path.{_≡_, sym, ap, _∙_}
+use mathlib.Core.Path.{_≡_}
 use native.Mathlib.Omega.{arith}
 use lib.ListN.{length, take, length-set}
 use Rattle.common.specs.Flat.{tabulate, inRows}

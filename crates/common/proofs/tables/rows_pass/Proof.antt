@@ -1,6 +1,6 @@
 -- `tables::rows_pass` meets its contract: the rows left from place `at` on are what the whole asks, and fill the part to its end.
 -- Assumes nothing.
-use Prim.Native.Nat.{_+_, _*_, _-_, _≤_}
+use Prim.Native.Nat.{_+_, _*_, _≤_}
 use mathlib.Core.Path.{_≡_, refl, sym, _∙_}
 use native.Mathlib.Omega.{arith}
 use borrow.Author.Tests.{not-true, not-false}

@@ -1,7 +1,7 @@
 -- `fields::lastnz` meets its contract: the field's value doubled, then the test of refusal 6.
 -- Assumes nothing.
-use Prim.Native.Nat.{_<_, _≤_, _^_}
-use mathlib.Core.Path.{_≡_, refl, sym, _∙_}
+use Prim.Native.Nat.{_<_}
+use mathlib.Core.Path.{refl}
 use native.Mathlib.Omega.{arith}
 use native.Mathlib.Nat.{lt-of-lt-of-le}
 use lib.Pow.{pow-mono}
