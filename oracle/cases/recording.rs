@@ -1,6 +1,8 @@
-// Cases of real frames, out of recordings: the side information of each, read, and what was read written back.
+// Cases of recordings. Of each frame the side information, read, and what was read written back; of each file its table
+// set, and of the first file's also damaged ones.
 
 use super::side_info::{put, Config, Read};
+use super::tables;
 use crate::records::{Records, ACCEPTED};
 
 // The tag and the content of the field at the front, if all of it is there.
@@ -9,9 +11,15 @@ fn field(bytes: &[u8]) -> Option<(u8, &[u8])> {
     Some((bytes[0], bytes.get(3..3 + len)?))
 }
 
-// The frames of a recording, each with the configuration in force; or the place of a field that cannot be there.
-fn frames(bytes: &[u8]) -> Result<Vec<(Config, &[u8])>, usize> {
-    let (mut frames, mut of, mut at) = (Vec::new(), None, 0);
+struct Recording<'a> {
+    // each with the configuration in force
+    frames: Vec<(Config, &'a [u8])>,
+    tables: [Option<&'a [u8]>; 5],
+}
+
+// What a recording holds; or the place of a field that cannot be there.
+fn recording(bytes: &[u8]) -> Result<Recording<'_>, usize> {
+    let (mut frames, mut tables, mut of, mut at) = (Vec::new(), [None; 5], None, 0);
     while at < bytes.len() {
         let (tag, content) = field(&bytes[at..]).ok_or(at)?;
         match (tag, content, of) {
@@ -19,13 +27,14 @@ fn frames(bytes: &[u8]) -> Result<Vec<(Config, &[u8])>, usize> {
                 of = Some(Config { fs_ind: *fs_ind as usize, duration: *duration as usize })
             }
             (0x02, frame, Some(of)) if (20..=400).contains(&frame.len()) => frames.push((of, frame)),
-            // no table plays a part in the side information
-            (0x10..=0x14, _, _) => {}
+            (0x10..=0x14, table, _) if tables[tag as usize - 0x10].is_none() => {
+                tables[tag as usize - 0x10] = Some(table)
+            }
             _ => return Err(at),
         }
         at += 3 + content.len();
     }
-    Ok(frames)
+    Ok(Recording { frames, tables })
 }
 
 // What the Rust reads of a frame, and what it read written back; of a refused frame there is nothing to write.
@@ -55,14 +64,26 @@ fn put_frame(out: &mut Records, of: Config, frame: &[u8]) {
 pub fn run(out: &mut Records, files: &[String]) -> usize {
     let contents: Vec<Vec<u8>> =
         files.iter().map(|file| std::fs::read(file).unwrap_or_else(|e| stop(file, &e.to_string()))).collect();
-    let mut all = Vec::new();
+    let (mut all, mut sets) = (Vec::new(), Vec::new());
     for (file, bytes) in files.iter().zip(&contents) {
-        match frames(bytes) {
-            Ok(frames) => all.extend(frames),
+        match recording(bytes) {
+            Ok(Recording { frames, tables }) => {
+                all.extend(frames);
+                // a recording may come without its tables
+                if let [Some(a), Some(b), Some(c), Some(d), Some(e)] = tables {
+                    let set = [a, b, c, d, e].map(<[u8]>::to_vec);
+                    if !tables::has_sizes(&set) {
+                        stop(file, "a table of its set has another size");
+                    }
+                    sets.push(set);
+                }
+            }
             Err(at) => stop(file, &format!("this is no recording: its field at byte {} cannot be there", at)),
         }
     }
     all.iter().for_each(|(of, frame)| put_frame(out, *of, frame));
+    sets.iter().for_each(|set| tables::put(out, set, true));
+    sets.first().into_iter().for_each(|set| tables::put_changed(out, set));
     all.len()
 }
 

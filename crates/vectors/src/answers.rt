@@ -3,6 +3,7 @@ ghost use Prim.Native.Nat.{_≤_, _<_};
 ghost use lib.ListN.{length};
 use crate::reader_cases;
 use crate::side_cases;
+use crate::table_cases;
 use crate::writer_cases;
 
 // The length of the answer; 0 where the kind is unknown or the case malformed.
@@ -14,6 +15,7 @@ pub(crate) fn answer(kind: u8, case: &[u8], out: &mut [u8]) -> usize
         1..=4 => reader_cases::answer(kind, case, out),
         5..=8 => writer_cases::answer(kind, case, out),
         9..=10 => side_cases::answer(kind, case, out),
+        11 => table_cases::answer(case, out),
         _ => 0,
     }
 }
@@ -26,6 +28,7 @@ pub(crate) fn place(kind: u8) -> usize
         1..=4 => 0,
         5..=8 => 1,
         9..=10 => 2,
+        11 => 3,
         _ => 7,
     }
 }

@@ -8,6 +8,7 @@ mod refusal;
 mod report;
 mod side_cases;
 mod side_record;
+mod table_cases;
 mod tally;
 mod writer_cases;
 mod written;

@@ -30,6 +30,7 @@ fn modules(tally: Tally) {
     module(b"buffer_reader", cases[0], panics[0]);
     module(b"buffer_writer", cases[1], panics[1]);
     module(b"side_info", cases[2], panics[2]);
+    module(b"tables", cases[3], panics[3]);
 }
 
 fn module(name: &[u8], cases: u64, panics: u64) {
