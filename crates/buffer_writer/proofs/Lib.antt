@@ -3,3 +3,4 @@ pub mod Places
 pub mod Answers
 pub mod Unique
 pub mod Back
+pub mod Copies

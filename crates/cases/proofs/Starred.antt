@@ -7,8 +7,10 @@ use Rattle.common.specs.Flat.{tabulate}
 use Rattle.buffer_reader.specs.Tail.{field}
 use Rattle.buffer_writer.specs.Writes.{putField}
 use Rattle.side_info.specs.Reader.{leastWidth}
+use Rattle.common.specs.Last.{lastBelow, floorLog2}
+use Rattle.range_decoder.specs.Decoder.{owner}
 use Rattle.cases.specs.Starred.{Case, starred}
 
 pub all-as-stated : map (λ (c : Case). c .defined) starred ≡ map (λ (c : Case). c .stated) starred
-unfolding total tabulate putField field leastWidth
+unfolding total tabulate putField field leastWidth lastBelow floorLog2 owner
 all-as-stated = refl

@@ -78,3 +78,8 @@ or-fails-second false b e = e
 pub not-passed : (t : Bool) → (t ≡ true → ⊥) → t ≡ false
 not-passed true h = absurd (h refl)
 not-passed false h = refl
+
+-- by either answer of a test
+pub by-test : {G : Type 0} (b : Bool) → (b ≡ true → G) → (b ≡ false → G) → G
+by-test true f g = f refl
+by-test false f g = g refl

@@ -6,3 +6,4 @@ pub mod Sets
 pub mod Cumulatives
 pub mod Replies
 pub mod Unique
+pub mod Lasts

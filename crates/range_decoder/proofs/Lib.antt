@@ -1,0 +1,6 @@
+pub mod Owners
+pub mod Searches
+pub mod Renormal
+pub mod Appends
+pub mod Answers
+pub mod Unique

@@ -1,0 +1,59 @@
+-- What an answer of the decoder says decides the answer: each refusal is found again by its number. Assumes nothing.
+use mathlib.Core.Path.{_≡_, refl}
+use mathlib.Core.Bool.{cond}
+use lib.Dec.{eqb}
+use lib.ListN.{getD}
+use Rattle.common.specs.Reply.{Reply, Answer, accepted, refused}
+use Rattle.common.proofs.Unique.{from-back}
+use Rattle.buffer_reader.specs.declared.BufferError.the-variants.{TooLong, WidthNotListed, NoTailRoom, PastEnd}
+use Rattle.buffer_reader.specs.declared.Cursor.{Cursor}
+use Rattle.buffer_reader.proofs.Unique.{errorBack}
+use Rattle.range_decoder.specs.Decoder.{Decoded, replyOf, startedOf, symbolOf}
+use Rattle.range_decoder.specs.declared.DecoderState.{DecoderState}
+use Rattle.range_decoder.specs.declared.CodecError.{CodecError}
+use Rattle.range_decoder.specs.declared.CodecError.the-variants.{OutsideLimits, RowFails, LowBeyondLimit, Buffer}
+use Rattle.range_decoder.specs.declared.Started.{Started}
+use Rattle.range_decoder.specs.declared.Started.the-variants.{At, Refused as StartRefused}
+use Rattle.range_decoder.specs.declared.SymbolRead.{SymbolRead}
+use Rattle.range_decoder.specs.declared.SymbolRead.the-variants.{Symbol, Refused as SymbolRefused}
+
+unfoldable pub codecBack : Reply → CodecError
+codecBack r =
+    cond (eqb (r .number) 1) OutsideLimits
+    (cond (eqb (r .number) 3) RowFails
+    (cond (eqb (r .number) 11) (LowBeyondLimit (getD (r .values) 0 0) (getD (r .values) 1 0)) (Buffer (errorBack r))))
+
+pub codec-back : (e : CodecError) → codecBack (replyOf e) ≡ e
+unfolding codecBack errorBack
+codec-back OutsideLimits = refl
+codec-back RowFails = refl
+codec-back (LowBeyondLimit low limit) = refl
+codec-back (Buffer (TooLong n)) = refl
+codec-back (Buffer (WidthNotListed n)) = refl
+codec-back (Buffer (NoTailRoom n b)) = refl
+codec-back (Buffer (PastEnd h)) = refl
+
+pub codec-unique : (a b : CodecError) → replyOf a ≡ replyOf b → a ≡ b
+codec-unique = from-back replyOf codecBack codec-back
+
+abbrev startedBack : Answer (DecoderState × Cursor) → Started
+startedBack (accepted v) = At (v .0) (v .1)
+startedBack (refused r) = StartRefused (codecBack r)
+
+started-back : (a : Started) → startedBack (startedOf a) ≡ a
+started-back (At s c) = refl
+started-back (StartRefused e) = rw (codec-back e) refl
+
+pub started-unique : (a b : Started) → startedOf a ≡ startedOf b → a ≡ b
+started-unique = from-back startedOf startedBack started-back
+
+abbrev symbolBack : Answer (Decoded × Cursor) → SymbolRead
+symbolBack (accepted v) = Symbol (v .0 .symbol) (v .0 .state) (v .1)
+symbolBack (refused r) = SymbolRefused (codecBack r)
+
+symbol-back : (a : SymbolRead) → symbolBack (symbolOf a) ≡ a
+symbol-back (Symbol k s c) = refl
+symbol-back (SymbolRefused e) = rw (codec-back e) refl
+
+pub symbol-unique : (a b : SymbolRead) → symbolOf a ≡ symbolOf b → a ≡ b
+symbol-unique = from-back symbolOf symbolBack symbol-back

@@ -1,0 +1,163 @@
+-- The decoder on any continuation. Its low is the number of the head bytes so far less the interval's base, so the symbol that owns
+-- low is the one whose part the number lies in, and each appended byte is the next digit of the number. Assumes nothing.
+use Prim.Native.Nat.{ℕ, _+_, _-_, _*_, _≤_, _<_}
+use mathlib.Core.Path.{_≡_, refl, _∙_}
+use mathlib.Core.Bool.{Bool, true, false, cond}
+use mathlib.Core.List.{List, [], _∷_}
+use native.Mathlib.Omega.{arith}
+use native.Mathlib.Nat.{le-trans, add-zero}
+use borrow.Author.Tests.{lt-leb, ltb-true}
+use lib.Dec.{ltb}
+use lib.ListN.{length, getD}
+use Rattle.common.specs.Reply.{accepted}
+use Rattle.buffer_reader.specs.Reads.{takeByte, threeAt}
+use Rattle.buffer_reader.specs.Steps.{next, found}
+use Rattle.buffer_reader.specs.declared.Cursor.{Cursor}
+use Rattle.buffer_reader.proofs.Answers.{byte-taken, three-taken}
+use Rattle.buffer_writer.proofs.Places.{Bytes}
+use Rattle.range_decoder.specs.Decoder.{unitOf, appendByte, renormalised, Decoded, symbolStep, startDecoder}
+use Rattle.range_decoder.specs.declared.DecoderState.{DecoderState}
+use Rattle.range_decoder.proofs.Owners.{Owns, owns-owner, owns-limit}
+use Rattle.range_encoder.specs.Digits.{headNumber}
+use Rattle.range_encoder.specs.Interval.{Sent, cumulativeOf, frequencyOf, Interval, whole, part, widened, narrowedBy, behind}
+use Rattle.range_encoder.specs.Runs.{Passes, AllPass, more, decodeAll}
+use Rattle.range_encoder.proofs.Symbols.{symbol-shares, shares-given, Given}
+use Rattle.range_encoder.proofs.Numbers.{head-more}
+use Rattle.common.proofs.Bools.{by-test}
+use Rattle.range_encoder.proofs.Intervals.{two-turns}
+
+-- the number of the frame's 3 + S head bytes lies in the interval
+pub record Inside (f : List ℕ) (h : ℕ) (i : Interval) : Type 0 where
+  pub low : i .base ≤ headNumber f h (3 + i .shifts)
+  pub high : headNumber f h (3 + i .shifts) < i .base + i .range
+
+-- what a symbol of a row that passes is given of an interval's range
+given-of : (i : Interval) (x : Sent) → 0x10000 ≤ i .range → Passes x → Given (i .range) (cumulativeOf x) (frequencyOf x)
+given-of i x least p = shares-given (i .range) (cumulativeOf x) (frequencyOf x) least (symbol-shares x p)
+
+-- a turn leaves the range below 2^24
+most-widened : (i : Interval) → i .range ≤ 0xFFFFFF → widened i .range ≤ 0xFFFFFF
+most-widened i h = by-test (ltb (i .range) 0x10000) (λ e. rw e (omega (arith, ltb-true))) (λ e. rw e h)
+
+-- between two symbols the range is from 0x10000 to 0xFFFFFF
+pub narrowed-bounds : (i : Interval) (x : Sent) → 0x10000 ≤ i .range → i .range ≤ 0xFFFFFF → Passes x → (0x10000 ≤ narrowedBy i x .range) × (narrowedBy i x .range ≤ 0xFFFFFF)
+narrowed-bounds i x least most p =
+    let g = given-of i x least p in
+    let short : part i x .range ≤ 0xFFFFFF = le-trans (g .short) most in
+    (two-turns (part i x) (g .least) short, most-widened (widened (part i x)) (most-widened (part i x) short))
+
+-- the shifts only grow
+pub widened-shifts : (i : Interval) → i .shifts ≤ widened i .shifts
+widened-shifts i = by-test (ltb (i .range) 0x10000) (λ e. rw e (omega arith)) (λ e. rw e (omega arith))
+
+pub behind-shifts : (i : Interval) (xs : List Sent) → i .shifts ≤ behind i xs .shifts
+unfolding behind
+behind-shifts i [] = omega arith
+behind-shifts i (x ∷ xs) =
+    omega (arith, widened-shifts (part i x), widened-shifts (widened (part i x)), behind-shifts (narrowedBy i x) xs)
+
+-- one byte more is one digit more
+head-next : (f : List ℕ) (h n : ℕ) → headNumber f h (3 + (n + 1)) ≡ headNumber f h (3 + n) * 256 + getD f (h + (3 + n)) 0
+head-next f h n = let e : 3 + (n + 1) ≡ 3 + n + 1 = omega arith in rw e (head-more f h (3 + n))
+
+-- `widened`, by its test
+abbrev wider : Bool → Interval → Interval
+wider below i = cond below (record { base = i .base * 256; range = i .range * 256; shifts = i .shifts + 1 }) i
+
+module _ (f : List ℕ) (h : ℕ) (bytes : Bytes f) where
+  inside-wider : (below : Bool) (i : Interval) → Inside f h (wider below i) → Inside f h i
+  inside-wider true i o =
+      let digit : getD f (h + (3 + i .shifts)) 0 < 256 = bytes (h + (3 + i .shifts)) in
+      let more-bytes = head-next f h (i .shifts) in
+      record { low = omega (arith, o .low); high = omega (arith, o .high) }
+  inside-wider false i o = o
+
+  -- a number in the widened interval lies, without its last byte, in the interval
+  pub inside-widened : (i : Interval) → Inside f h (widened i) → Inside f h i
+  inside-widened i = inside-wider (ltb (i .range) 0x10000) i
+
+  -- nesting: what lies in a later interval lies, cut to its bytes, in every earlier one
+  pub inside-before : (i : Interval) (x : Sent) → 0x10000 ≤ i .range → Passes x → Inside f h (narrowedBy i x) → Inside f h i
+  inside-before i x least p o =
+      let q = inside-widened (part i x) (inside-widened (widened (part i x)) o) in
+      let g = given-of i x least p in
+      record { low = omega (arith, q .low); high = omega (arith, q .high, g .most) }
+
+  pub inside-behind : (i : Interval) (xs : List Sent) → 0x10000 ≤ i .range → i .range ≤ 0xFFFFFF → AllPass xs → Inside f h (behind i xs) → Inside f h i
+  unfolding behind
+  inside-behind i [] least most p o = o
+  inside-behind i (x ∷ xs) least most (more p ps) o =
+      let b = narrowed-bounds i x least most p in
+      inside-before i x least p (inside-behind (narrowedBy i x) xs (b .0) (b .1) ps o)
+
+-- the decoder's state and cursor that belong to an interval
+abbrev pub stateAt : List ℕ → ℕ → Interval → DecoderState
+stateAt f h i = record { low = headNumber f h (3 + i .shifts) - i .base; range = i .range }
+
+abbrev pub cursorAt : Cursor → Interval → Cursor
+cursorAt c i = record { head = c .head + 3 + i .shifts; tail = c .tail }
+
+module _ (f : List ℕ) (c : Cursor) (bytes : Bytes f) (size : length f ≤ 65535) where
+  append-wider : (below : Bool) (i : Interval) → c .head + 3 + wider below i .shifts ≤ length f → i .base ≤ headNumber f (c .head) (3 + i .shifts) → cond below (next takeByte (λ byte. found (record { low = stateAt f (c .head) i .low * 256 + byte; range = i .range * 256 }))) (found (stateAt f (c .head) i)) f (cursorAt c i) ≡ accepted (stateAt f (c .head) (wider below i), cursorAt c (wider below i))
+  append-wider true i room low =
+      let at : c .head + (3 + i .shifts) ≡ c .head + 3 + i .shifts = omega arith in
+      let head : c .head + 3 + i .shifts + 1 ≡ c .head + 3 + (i .shifts + 1) = omega arith in
+      let digit : (headNumber f (c .head) (3 + i .shifts) - i .base) * 256 + getD f (c .head + 3 + i .shifts) 0 ≡ headNumber f (c .head) (3 + (i .shifts + 1)) - i .base * 256 =
+      rw (head-next f (c .head) (i .shifts), at) (omega arith) in
+      rw (byte-taken f (cursorAt c i) size (omega arith), digit, head) refl
+  append-wider false i room low = refl
+
+  -- an appended byte is the number's next digit
+  append-widened : (i : Interval) → c .head + 3 + widened i .shifts ≤ length f → Inside f (c .head) (widened i) → appendByte (stateAt f (c .head) i) f (cursorAt c i) ≡ accepted (stateAt f (c .head) (widened i), cursorAt c (widened i))
+  append-widened i room o =
+      append-wider (ltb (i .range) 0x10000) i room (inside-widened f (c .head) bytes i o .low)
+
+  renormalised-widened : (i : Interval) → c .head + 3 + widened (widened i) .shifts ≤ length f → Inside f (c .head) (widened (widened i)) → renormalised (stateAt f (c .head) i) f (cursorAt c i) ≡ accepted (stateAt f (c .head) (widened (widened i)), cursorAt c (widened (widened i)))
+  renormalised-widened i room o =
+      let first = append-widened i (omega (arith, widened-shifts (widened i))) (inside-widened f (c .head) bytes (widened i) o) in
+      rw first (append-widened (widened i) room o)
+
+-- one symbol: the decoder finds it, with the encoder's range, and low is the continuation less base
+pub decode-one : (f : List ℕ) (c : Cursor) (i : Interval) (x : Sent) → Bytes f → length f ≤ 65535 → 0x10000 ≤ i .range → i .range ≤ 0xFFFFFF → Passes x → c .head + 3 + narrowedBy i x .shifts ≤ length f → Inside f (c .head) (narrowedBy i x) → symbolStep (stateAt f (c .head) i) (x .row) f (cursorAt c i) ≡ accepted (record { symbol = x .symbol; state = stateAt f (c .head) (narrowedBy i x) }, cursorAt c (narrowedBy i x))
+decode-one f c i x bytes size least most p room o =
+    let q = inside-widened f (c .head) bytes (part i x) (inside-widened f (c .head) bytes (widened (part i x)) o) in
+    let low : ℕ = headNumber f (c .head) (3 + i .shifts) - i .base in
+    let unit : ℕ = unitOf (i .range) in
+    let owns : Owns unit low (x .row) (x .symbol) =
+    record { there = p .symbol-there; starts = omega (arith, q .low); ends = omega (arith, q .low, q .high) } in
+    let own : low - unit * cumulativeOf x ≡ stateAt f (c .head) (part i x) .low = omega arith in
+    rw (lt-leb (1024 * unit) low (owns-limit (x .row) (p .row-passes) unit low (x .symbol) owns), owns-owner (x .row) (p .row-passes) unit low (x .symbol) owns, own, renormalised-widened f c bytes size (part i x) room o) refl
+
+-- what is to be decoded, with the state behind each symbol
+unfoldable pub decodedAs : List ℕ → ℕ → Interval → List Sent → List Decoded
+decodedAs f h i [] = []
+decodedAs f h i (x ∷ xs) =
+    record { symbol = x .symbol; state = stateAt f h (narrowedBy i x) } ∷ decodedAs f h (narrowedBy i x) xs
+
+-- from any interval on
+pub decode-rest : (f : List ℕ) (c : Cursor) (i : Interval) (xs : List Sent) → Bytes f → length f ≤ 65535 → 0x10000 ≤ i .range → i .range ≤ 0xFFFFFF → AllPass xs → c .head + 3 + behind i xs .shifts ≤ length f → Inside f (c .head) (behind i xs) → decodeAll (stateAt f (c .head) i) xs f (cursorAt c i) ≡ accepted (decodedAs f (c .head) i xs, cursorAt c (behind i xs))
+unfolding behind decodeAll decodedAs
+decode-rest f c i [] bytes size least most p room o = refl
+decode-rest f c i (x ∷ xs) bytes size least most (more p ps) room o =
+    let b = narrowed-bounds i x least most p in
+    let here = inside-behind f (c .head) bytes (narrowedBy i x) xs (b .0) (b .1) ps o in
+    let one = decode-one f c i x bytes size least most p (omega (arith, behind-shifts (narrowedBy i x) xs)) here in
+    let rest = decode-rest f c (narrowedBy i x) xs bytes size (b .0) (b .1) ps room o in
+    rw (one, rest) refl
+
+three-number : (f : List ℕ) (h : ℕ) → threeAt f h ≡ headNumber f h 3
+unfolding headNumber
+three-number f h = rw (add-zero h) (omega arith)
+
+-- the start is the first interval's: three bytes, and the whole range
+start-whole : (f : List ℕ) (c : Cursor) → length f ≤ 65535 → c .head + 3 ≤ length f → startDecoder f c ≡ accepted (stateAt f (c .head) whole, cursorAt c whole)
+start-whole f c size room =
+    let low : threeAt f (c .head) ≡ stateAt f (c .head) whole .low = three-number f (c .head) ∙ omega arith in
+    rw (three-taken f c size (omega arith), low, add-zero (c .head + 3)) refl
+
+-- theorem 4: on every frame whose head number lies in the interval behind the symbols, whatever its other bytes are, the decoder
+-- finds the symbols, each with the encoder's range behind it
+pub decodes : (f : List ℕ) (c : Cursor) (xs : List Sent) → Bytes f → length f ≤ 65535 → AllPass xs → c .head + 3 + behind whole xs .shifts ≤ length f → Inside f (c .head) (behind whole xs) → next startDecoder (λ s. decodeAll s xs) f c ≡ accepted (decodedAs f (c .head) whole xs, cursorAt c (behind whole xs))
+decodes f c xs bytes size p room o =
+    rw (start-whole f c size (omega arith))
+    (decode-rest f c whole xs bytes size (omega arith) (omega arith) p room o)

@@ -1,0 +1,15 @@
+pub mod Symbols
+pub mod Numbers
+pub mod States
+pub mod Shifts
+pub mod Intervals
+pub mod Carry
+pub mod Ends
+pub mod Endings
+pub mod Finishes
+pub mod Sends
+pub mod Decodes
+pub mod Continues
+pub mod OwnBits
+pub mod Forecasts
+pub mod CrateFinish

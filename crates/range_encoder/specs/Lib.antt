@@ -1,0 +1,5 @@
+pub mod Digits
+pub mod Interval
+pub mod Encoder
+pub mod Finish
+pub mod Runs
