@@ -1,6 +1,6 @@
 -- The last place at which a test holds is the one place at which it holds and behind which it does not. So the floor of a
 -- logarithm is the one exponent n with 2^n at most the number and 2^(n+1) above it. Assumes nothing.
-use Prim.Native.Nat.{ℕ, zero, suc, _+_, _-_, _^_, _≤_, _<_}
+use Prim.Native.Nat.{ℕ, zero, suc, _-_, _^_, _≤_, _<_}
 use mathlib.Core.Path.{_≡_, refl}
 use mathlib.Core.Bool.{Bool, true, false}
 use mathlib.Core.Logic.{⊎-elim}

@@ -6,9 +6,9 @@ use mathlib.Core.Bool.{true, false}
 use mathlib.Core.List.{List}
 use native.Mathlib.Omega.{arith}
 use borrow.Author.Tests.{lt-ltb, le-ltb, le-leb, lt-leb, leb-true}
-use lib.Dec.{leb, ltb}
+use lib.Dec.{leb}
 use lib.ListN.{length, getD}
-use Rattle.common.specs.Reply.{accepted, refused, outsideLimits, wrongLength, tablesFail, lowBeyondLimit}
+use Rattle.common.specs.Reply.{refused, outsideLimits, wrongLength, tablesFail, lowBeyondLimit}
 use Rattle.common.specs.Tables.{rowPasses, cumulative}
 use Rattle.common.proofs.Bools.{and-left, and-right}
 use Rattle.buffer_reader.specs.Steps.{next, found}

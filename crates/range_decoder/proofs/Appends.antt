@@ -8,7 +8,7 @@ use native.Mathlib.Omega.{arith}
 use borrow.Author.Tests.{lt-ltb, le-ltb, ltb-true, ltb-false}
 use lib.Dec.{leb, ltb}
 use lib.ListN.{length, getD}
-use Rattle.common.specs.Reply.{Answer, accepted, wrongLength, headPastEnd}
+use Rattle.common.specs.Reply.{accepted, wrongLength, headPastEnd}
 use Rattle.common.proofs.Replies.{accepted-same, then-split, given-split}
 use Rattle.buffer_reader.specs.Reads.{takeByte}
 use Rattle.buffer_reader.specs.Steps.{next, found}

@@ -5,7 +5,7 @@ use mathlib.Core.Bool.{Bool, cond, not, _&&_}
 use mathlib.Core.List.{List}
 use lib.Dec.{leb, ltb}
 use lib.ListN.{length, getD}
-use Rattle.common.specs.Reply.{Reply, Answer, accepted, refused, given, andThen, outsideLimits, tablesFail, lowBeyondLimit}
+use Rattle.common.specs.Reply.{Reply, Answer, accepted, refused, given, outsideLimits, tablesFail, lowBeyondLimit}
 use Rattle.common.specs.Tables.{rowPasses, cumulative}
 use Rattle.common.specs.Last.{lastBelow}
 use Rattle.buffer_reader.specs.Reads.{takeByte, takeThree, tooLong}

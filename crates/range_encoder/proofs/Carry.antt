@@ -10,7 +10,7 @@ use native.Mathlib.Nat.{add-zero}
 use borrow.Author.Tests.{ltb-true, ltb-false, eqb-true, eqb-false}
 use lib.Dec.{ltb, eqb}
 use lib.ListN.{length, replicate, length-append, replicate-append-replicate}
-use Rattle.common.proofs.Bools.{or-split, or-false, or-fails-second}
+use Rattle.common.proofs.Bools.{by-test, or-split, or-false, or-fails-second}
 use Rattle.range_decoder.specs.Decoder.{unitOf}
 use Rattle.range_encoder.specs.Digits.{numberFrom, number}
 use Rattle.range_encoder.specs.Interval.{Sent, cumulativeOf, frequencyOf, Interval, whole, part, widened, narrowedBy, behind}
@@ -20,7 +20,6 @@ use Rattle.range_encoder.specs.declared.EncoderState.{EncoderState}
 use Rattle.range_encoder.proofs.Symbols.{Shares, Given, symbol-shares, shares-given}
 use Rattle.range_encoder.proofs.Numbers.{from-append, from-none, from-one, carry-through}
 use Rattle.range_encoder.proofs.Intervals.{two-turns}
-use Rattle.common.proofs.Bools.{by-test}
 use Rattle.range_encoder.proofs.States.{shifts-shifted, out-shifted, fits-added, fits-turn, fits-encoded}
 
 -- the digits that are held: the cache and the 0xFFs behind it

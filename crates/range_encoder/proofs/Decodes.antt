@@ -9,6 +9,7 @@ use native.Mathlib.Nat.{le-trans, add-zero}
 use borrow.Author.Tests.{lt-leb, ltb-true}
 use lib.Dec.{ltb}
 use lib.ListN.{length, getD}
+use Rattle.common.proofs.Bools.{by-test}
 use Rattle.common.specs.Reply.{accepted}
 use Rattle.buffer_reader.specs.Reads.{takeByte, threeAt}
 use Rattle.buffer_reader.specs.Steps.{next, found}
@@ -23,7 +24,6 @@ use Rattle.range_encoder.specs.Interval.{Sent, cumulativeOf, frequencyOf
 use Rattle.range_encoder.specs.Runs.{Passes, AllPass, more, decodeAll}
 use Rattle.range_encoder.proofs.Symbols.{symbol-shares, shares-given, Given}
 use Rattle.range_encoder.proofs.Numbers.{head-more}
-use Rattle.common.proofs.Bools.{by-test}
 use Rattle.range_encoder.proofs.Intervals.{two-turns}
 
 -- the number of the frame's 3 + S head bytes lies in the interval

@@ -8,12 +8,12 @@ use native.Mathlib.Nat.{zero-mul, suc-mul, lt-of-not-le, not-le-of-lt, lt-of-le-
 use borrow.Author.Tests.{lt-ltb, le-ltb, ltb-true, ltb-false, eqb-true, eqb-false, leb-false}
 use lib.Dec.{ltb, leb, eqb}
 use lib.Pow.{pow-pos, pow-mono, pow-add}
+use Rattle.common.proofs.Bools.{by-test}
 use Rattle.common.specs.Last.{floorLog2}
 use Rattle.common.proofs.Lasts.{Log, log-law}
 use Rattle.range_encoder.specs.Encoder.{Fits, Carries, Sound}
 use Rattle.range_encoder.specs.Finish.{Ending, roundedUp, highOf, endingAt, endingBy, ending, ended}
 use Rattle.range_encoder.specs.declared.EncoderState.{EncoderState}
-use Rattle.common.proofs.Bools.{by-test}
 
 -- the ending in exact numbers: `up` is the value with what it carried
 pub record Exact (s : EncoderState) (e : Ending) : Type 0 where
@@ -36,11 +36,11 @@ power-below : (i j : ℕ) → 2 ^ i < 2 ^ j → i < j
 power-below i j l = lt-of-not-le (λ h. not-le-of-lt l (pow-mono h))
 
 -- between two symbols the floor of the range's logarithm is 16 to 23
-pub log-range : (s : EncoderState) → Fits s → 0x10000 ≤ s .range → (16 ≤ floorLog2 (s .range)) × (floorLog2 (s .range) ≤ 23)
-log-range s f least =
-    let log : Log (s .range) (floorLog2 (s .range)) = log-law (s .range) (omega arith) (omega arith) in
-    let low : 16 < suc (floorLog2 (s .range)) = power-below 16 (suc (floorLog2 (s .range))) (lt-of-le-of-lt least (log .high)) in
-    let high : floorLog2 (s .range) < 24 = power-below (floorLog2 (s .range)) 24 (lt-of-le-of-lt (log .low) (f .range-fits)) in
+pub log-range : (range : ℕ) → 0x10000 ≤ range → range < 0x1000000 → (16 ≤ floorLog2 range) × (floorLog2 range ≤ 23)
+log-range range least fits =
+    let log : Log range (floorLog2 range) = log-law range (omega arith) (omega arith) in
+    let low : 16 < suc (floorLog2 range) = power-below 16 (suc (floorLog2 range)) (lt-of-le-of-lt least (log .high)) in
+    let high : floorLog2 range < 24 = power-below (floorLog2 range) 24 (lt-of-le-of-lt (log .low) fits) in
     (omega arith, omega arith)
 
 -- low rounded up to a multiple of q, a step that divides 0x1000000
@@ -149,7 +149,7 @@ module _ (reading : ℕ) (s : EncoderState) (n : ℕ) (fits : Fits s) (some : 1 
 -- what either reading chooses
 chosen : (reading : ℕ) (s : EncoderState) → Sound s → Chosen reading s (floorLog2 (s .range)) (ending reading s)
 chosen reading s sound =
-    let limits = log-range s (sound .fits) (sound .range-least) in
+    let limits = log-range (s .range) (sound .range-least) (sound .fits .range-fits) in
     let log = log-law (s .range) (omega arith) (omega arith) in
     chosen-by reading s (floorLog2 (s .range)) (sound .fits) (omega arith) (limits .1) (log .low)
 
@@ -200,7 +200,7 @@ ending-carries reading s sound = chosen-carries s sound (chosen reading s sound)
 
 ended-fits : (s : EncoderState) (e : Ending) → Sound s → Ended s e → Fits (ended s e)
 ended-fits s e sound ends =
-    let limits = log-range s (sound .fits) (sound .range-least) in
+    let limits = log-range (s .range) (sound .range-least) (sound .fits .range-fits) in
     let short : 2 ^ (24 - e .bits) ≤ 2 ^ 23 = pow-mono {i = 24 - e .bits} {j = 23} (omega arith) in
     omega arith
 

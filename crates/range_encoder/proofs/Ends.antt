@@ -2,7 +2,7 @@
 use Prim.Native.Nat.{ℕ, _+_, _-_, _/_, _^_, _≤_, _<_}
 use mathlib.Core.Path.{_≡_, refl, ap, _∙_}
 use borrow.Author.Tests.{eq-eqb, ne-eqb, le-leb, lt-leb}
-use Rattle.range_encoder.specs.Finish.{Ending, roundedUp, highOf, endingAt, endingBy}
+use Rattle.range_encoder.specs.Finish.{roundedUp, highOf, endingAt, endingBy}
 use Rattle.range_encoder.specs.declared.EncoderState.{EncoderState}
 
 module _ (reading : ℕ) (s : EncoderState) (n q value : ℕ) (step : q ≡ 2 ^ n) (rounded : value ≡ roundedUp (s .low) q) where

@@ -10,13 +10,13 @@ use borrow.Author.Tests.{lt-ltb, ltb-true, ltb-false, eqb-true, eqb-false}
 use lib.Dec.{ltb, eqb}
 use lib.Pow.{pow-pos, pow-add}
 use lib.ListN.{length, length-append, length-replicate}
+use Rattle.common.proofs.Bools.{by-test}
 use Rattle.range_encoder.specs.Digits.{number}
 use Rattle.range_encoder.specs.Interval.{Interval}
 use Rattle.range_encoder.specs.Encoder.{shiftsOf, settles, shifted, shiftBytes, reservedOf, Fits, Carries, Sound}
 use Rattle.range_encoder.specs.Finish.{Ending, ending, ended, pushed, pushedBytes, lastBits, heldBytes, lastByte, finishBytes, finishLast, finishBits, ownNumber}
 use Rattle.range_encoder.specs.declared.EncoderState.{EncoderState}
 use Rattle.range_encoder.proofs.Numbers.{from-append, from-one}
-use Rattle.common.proofs.Bools.{by-test}
 use Rattle.range_encoder.proofs.States.{fits-shifted, shifts-shifted, out-shifted}
 use Rattle.range_encoder.proofs.Carry.{heldDigits, Holds, not-settled, digits-waiting, carries-shifted, holds-shifted}
 use Rattle.range_encoder.proofs.Endings.{Exact, log-range, ending-ended, ending-exact, ending-fits, ending-carries}
@@ -35,7 +35,7 @@ record Closes (t : EncoderState) (bits : ℕ) : Type 0 where
 closes : (reading : ℕ) (s : EncoderState) → Sound s → Closes (ended s (ending reading s)) (ending reading s .bits)
 closes reading s sound =
     let e = ending-ended reading s sound in
-    let limits = log-range s (sound .fits) (sound .range-least) in
+    let limits = log-range (s .range) (sound .range-least) (sound .fits .range-fits) in
     record {
       fits = ending-fits reading s sound;
       carries = ending-carries reading s sound;

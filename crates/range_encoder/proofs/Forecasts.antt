@@ -12,4 +12,4 @@ forecast-held s e = omega arith
 
 -- with none it is a byte more, since the source tests the carry where the standard tests the cache
 pub forecast-empty : (s : EncoderState) → Fits s → 0x10000 ≤ s .range → s .held ≡ 0 → forecastOf s ≡ reservedOf s + 8
-forecast-empty s fits least e = omega (arith, log-range s fits least .1)
+forecast-empty s fits least e = omega (arith, log-range (s .range) least (fits .range-fits) .1)

@@ -7,10 +7,10 @@ use native.Mathlib.Omega.{arith}
 use borrow.Author.Tests.{ltb-true, ltb-false}
 use lib.Dec.{ltb}
 use lib.Pow.{pow-add}
+use Rattle.common.proofs.Bools.{by-test}
 use Rattle.range_encoder.specs.Interval.{Sent, cumulativeOf, frequencyOf, Interval, whole, part, widened, narrowedBy, behind}
 use Rattle.range_encoder.specs.Runs.{Passes, AllPass, none, more}
 use Rattle.range_encoder.proofs.Symbols.{Given, symbol-shares, shares-given}
-use Rattle.common.proofs.Bools.{by-test}
 
 -- an interval between two symbols: the numbers of its string are those below 2^(24 + 8 S)
 pub record Within (i : Interval) : Type 0 where

@@ -1,11 +1,11 @@
 -- Bytes as digits: one byte more, one list behind another, and a carry that passes through 0xFFs. Assumes nothing.
-use Prim.Native.Nat.{ℕ, zero, suc, _+_, _*_, _≤_, _<_}
+use Prim.Native.Nat.{ℕ, zero, suc, _+_, _*_}
 use mathlib.Core.Path.{_≡_, refl, ap, _∙_}
 use mathlib.Core.List.{List, [], _∷_, _++_}
 use native.Mathlib.Omega.{arith}
 use native.Mathlib.Numerals.{add-one}
 use lib.ListN.{replicate, getD}
-use Rattle.range_encoder.specs.Digits.{numberFrom, number, headNumber}
+use Rattle.range_encoder.specs.Digits.{numberFrom, headNumber}
 
 -- one list of digits behind another
 pub from-append : (a : ℕ) (xs ys : List ℕ) → numberFrom a (xs ++ ys) ≡ numberFrom (numberFrom a xs) ys

@@ -1,6 +1,6 @@
 -- The theory put together: whatever stands behind the head's own bits, in a frame written in the standard reading the decoder
 -- reads the symbols that were sent. By theorems 2, 3 and 4. Assumes nothing.
-use Prim.Native.Nat.{ℕ, _+_, _-_, _*_, _/_, _^_, _≤_, _<_}
+use Prim.Native.Nat.{ℕ, _+_, _-_, _*_, _/_, _^_, _≤_}
 use mathlib.Core.Path.{_≡_}
 use mathlib.Core.List.{List, _++_}
 use native.Mathlib.Omega.{arith}
@@ -32,7 +32,7 @@ begins-inside : (f : List ℕ) (h : ℕ) (w : List ℕ) (s : EncoderState) (xs :
 begins-inside f h w s xs bytes sound holds begins =
     let i = behind whole xs in
     let e = ending-ended 1 s sound in
-    let logs = log-range s (sound .fits) (sound .range-least) in
+    let logs = log-range (s .range) (sound .range-least) (sound .fits .range-fits) in
     let long : 8 * length (w ++ finishBytes 1 s) + finishBits 1 s ≡ 8 * shiftsOf s + ending 1 s .bits = finish-length 1 w s sound (holds .sent) in
     let last = last-bits 1 s sound in
     let left : 8 * (3 + i .shifts) - (8 * length (w ++ finishBytes 1 s) + finishBits 1 s) ≡ 24 - ending 1 s .bits = omega (arith, holds .shifts, e .bits-most, logs .0) in

@@ -1,8 +1,7 @@
 -- The encoder's state: each of its numbers fits its place behind a shift, a symbol and a turn; S grows by one with each shift; and
 -- the bytes out are counted as they are sent. Assumes nothing.
 use Prim.Native.Nat.{ℕ, _+_, _*_, _≤_, _<_}
-use mathlib.Core.Path.{_≡_, refl}
-use mathlib.Core.Bool.{Bool, true, false}
+use mathlib.Core.Path.{_≡_}
 use native.Mathlib.Omega.{arith}
 use native.Mathlib.Nat.{mul-le-mul-left}
 use borrow.Author.Tests.{ltb-true, lt-ltb}

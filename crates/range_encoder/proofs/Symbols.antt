@@ -1,10 +1,7 @@
 -- What is known of a symbol of a row that passes, of a unit of the range, and of their products. Assumes nothing.
-use Prim.Native.Nat.{ℕ, _+_, _*_, _≤_, _<_}
-use mathlib.Core.Path.{_≡_}
+use Prim.Native.Nat.{ℕ, _+_, _*_, _≤_}
 use native.Mathlib.Omega.{arith}
-use native.Mathlib.Nat.{mul-add, mul-comm, mul-le-mul-left, mul-le-mul}
-use lib.ListN.{length}
-use Rattle.common.specs.Tables.{cumulative}
+use native.Mathlib.Nat.{mul-add, mul-le-mul-left, mul-le-mul}
 use Rattle.common.proofs.Cumulatives.{frequency-positive, cumulative-next, cumulative-bound}
 use Rattle.range_decoder.specs.Decoder.{unitOf}
 use Rattle.range_encoder.specs.Interval.{Sent, cumulativeOf, frequencyOf}

@@ -1,11 +1,10 @@
 -- The encoder as in the source: `ac_enc_init`, `ac_shift` and `ac_encode`. Each is the state behind it, and the bytes that it
 -- sends, which follow those that are out.
-use Prim.Native.Nat.{ℕ, _+_, _-_, _*_, _/_, _%_, _≤_, _<_}
+use Prim.Native.Nat.{ℕ, _+_, _*_, _/_, _%_, _≤_, _<_}
 use mathlib.Core.Bool.{Bool, cond, _||_}
 use mathlib.Core.List.{List, [], _++_}
 use lib.Dec.{ltb, eqb}
 use lib.ListN.{replicate}
-use Rattle.common.specs.Last.{floorLog2}
 use Rattle.range_decoder.specs.Decoder.{unitOf}
 use Rattle.range_encoder.specs.Interval.{reservedBits}
 use Rattle.range_encoder.specs.declared.EncoderState.{EncoderState}
@@ -97,7 +96,7 @@ reservedOf s = reservedBits (shiftsOf s) (s .range)
 
 -- the source's own forecast, `nbits_side_forcast`: it counts a byte in the cache also while there is none
 abbrev pub forecastOf : EncoderState → ℕ
-forecastOf s = 8 * (s .out + 1 + s .pending) + 25 - floorLog2 (s .range)
+forecastOf s = reservedBits (s .out + 1 + s .pending) (s .range)
 
 -- each number of a state fits its place
 pub record Fits (s : EncoderState) : Type 0 where

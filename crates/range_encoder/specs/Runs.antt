@@ -1,14 +1,12 @@
 -- A list of symbols through the encoder, and through the decoder.
-use Prim.Native.Nat.{ℕ, _+_, _-_}
+use Prim.Native.Nat.{ℕ, _<_}
 use mathlib.Core.List.{List, [], _∷_, _++_}
 use lib.ListN.{length}
 use mathlib.Core.Path.{_≡_}
 use mathlib.Core.Bool.{true}
-use Prim.Native.Nat.{_<_}
-use Rattle.common.specs.Reply.{accepted}
 use Rattle.common.specs.Tables.{rowPasses}
 use Rattle.buffer_reader.specs.Steps.{Reading, found, next}
-use Rattle.range_decoder.specs.Decoder.{Decoded, startDecoder, symbolStep}
+use Rattle.range_decoder.specs.Decoder.{Decoded, symbolStep}
 use Rattle.range_decoder.specs.declared.DecoderState.{DecoderState}
 use Rattle.range_encoder.specs.Interval.{Sent, cumulativeOf, frequencyOf}
 use Rattle.range_encoder.specs.Encoder.{encoded, encodedBytes}

@@ -6,6 +6,7 @@ ghost use Prim.Native.Nat.{_+_, _*_, _≤_, _<_};
 ghost use lib.ListN.{length};
 ghost use lib.Seq.{sets};
 ghost use Rattle.range_encoder.specs.Encoder.{startEncoder, shiftsOf, settles as Encoder·settles, shiftBytes, shifted, symbolAdded, withRange, turn as Encoder·turn, turnBytes, encoded, encodedBytes, reservedOf, forecastOf, Fits, Sound};
+ghost use Rattle.range_encoder.specs.Interval.{reservedBits};
 ghost use Rattle.range_encoder.specs.Finish.{endingOf, ended as Finish·ended, pushed, pushedBytes, lastBits, heldBytes, lastByte, finishBytes, finishLast, finishBits, withOwn};
 use crate::EncoderState;
 use crate::Finished;
@@ -135,12 +136,20 @@ pub fn ac_encode(buf: &mut [u8], st: EncoderState, cumulative: u32, frequency: u
     turn(buf, once)
 }
 
+// 8 bits for each byte, and the most that the finish sends behind them.
+fn bits_for(bytes: usize, range: u32) -> usize
+    requires { ⌜ (bytes ≤ 65536) × (0x10000 ≤ range) × (range < 0x1000000) ⌝ }
+    ensures { λ r. ⌜ r ≡ reservedBits bytes range ⌝ }
+{
+    8 * bytes + 25 - common::inner::floor_log2(range) as usize
+}
+
 // E, in bits.
 pub fn reserved_bits(st: EncoderState) -> usize
     requires { ⌜ (Fits st) × (0x10000 ≤ st .range) × (shiftsOf st ≤ 65535) ⌝ }
     ensures { λ r. ⌜ r ≡ reservedOf st ⌝ }
 {
-    8 * (st.out + st.held + st.pending) + 25 - common::inner::floor_log2(st.range) as usize
+    bits_for(st.out + st.held + st.pending, st.range)
 }
 
 // The source's own forecast, for the crate reading.
@@ -148,7 +157,7 @@ pub fn nbits_forecast(st: EncoderState) -> usize
     requires { ⌜ (Fits st) × (0x10000 ≤ st .range) × (shiftsOf st ≤ 65535) ⌝ }
     ensures { λ r. ⌜ r ≡ forecastOf st ⌝ }
 {
-    8 * (st.out + 1 + st.pending) + 25 - common::inner::floor_log2(st.range) as usize
+    bits_for(st.out + 1 + st.pending, st.range)
 }
 
 fn ended(st: EncoderState, e: crate::ending::Closing) -> EncoderState

@@ -1,9 +1,6 @@
 -- `ac_decode` meets its contract: 1, 2 and 3 in this order, and then the step itself. Assumes nothing.
-use mathlib.Core.Path.{_≡_, sym, _∙_}
-use mathlib.Core.Bool.{true}
-use Rattle.common.specs.Tables.{rowPasses}
+use mathlib.Core.Path.{sym, _∙_}
 use Rattle.common.proofs.Bools.{refuted, confirmed}
-use Rattle.range_decoder.specs.Decoder.{rangePasses}
 use Rattle.range_decoder.proofs.Answers.{decode-outside, decode-long, decode-row, decode-on}
 use borrow.Author.Needs.{needs}
 use Rattle.range_decoder.proofs.ac_decode.Statement.{statement}

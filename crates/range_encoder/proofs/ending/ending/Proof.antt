@@ -1,6 +1,5 @@
 -- `ending::ending` meets its contract: the floor of the range's logarithm is 16 to 23. Assumes nothing.
 use mathlib.Core.Path.{ap, _∙_}
-use Prim.Native.Nat.{ℕ}
 use native.Mathlib.Omega.{arith}
 use Rattle.range_encoder.specs.Finish.{endingBy}
 use Rattle.range_encoder.proofs.Endings.{log-range}
@@ -14,7 +13,7 @@ floor-log2-requires c κs = search needs
 ending-by-requires : tie.Need-ending-by-requires
 ending-by-requires c κs =
     let st = c .before .args .st in
-    let logs = log-range st (c .before .pre .0) (c .before .pre .1) in
+    let logs = log-range (st .range) (c .before .pre .1) (c .before .pre .0 .range-fits) in
     (c .before .pre .0, omega (arith, c .floor-log2 .ensures, logs .0), omega (arith, c .floor-log2 .ensures, logs .1))
 
 returns : tie.Need-returns

@@ -1,6 +1,6 @@
 -- `ending::ending_by` meets its contract: each of its answers is the definition's at the same two tests. Assumes nothing.
-use mathlib.Core.Path.{_≡_, sym, ap, _∙_}
-use Prim.Native.Nat.{ℕ, _<_, _≤_, _+_, _-_}
+use mathlib.Core.Path.{sym, ap, _∙_}
+use Prim.Native.Nat.{_-_}
 use Rattle.range_encoder.specs.Finish.{endingAt}
 use Rattle.range_encoder.proofs.Ends.{ends-apart, ends-short, ends-long}
 use borrow.Author.Needs.{needs}

@@ -1,9 +1,9 @@
 -- `inner::ac_encode` meets its contract: the symbol's part, and two turns, whose bytes lie one behind the other.
 -- Assumes nothing.
-use mathlib.Core.Path.{_≡_, refl, sym, ap, _∙_}
+use mathlib.Core.Path.{_≡_, ap, _∙_}
 use native.Mathlib.Omega.{arith}
 use lib.ListN.{length}
-use lib.Seq.{sets, length-sets}
+use lib.Seq.{length-sets}
 use Rattle.range_encoder.specs.Encoder.{turn, symbolAdded}
 use Rattle.range_encoder.proofs.States.{fits-added, fits-turn, shifts-turn-most}
 use Rattle.range_encoder.proofs.Shifts.{turns-laid}

@@ -1,6 +1,5 @@
 -- `inner::send_held` meets its contract: the cache with the carry, then what waits, are the bytes of a shift that settles.
 -- Assumes nothing.
-use mathlib.Core.Path.{refl, _∙_}
 use Rattle.range_encoder.proofs.Shifts.{held-laid}
 use borrow.Author.Needs.{needs}
 use Rattle.range_encoder.proofs.inner.send_held.Statement.{statement}

@@ -1,6 +1,6 @@
 -- `inner::turn` meets its contract: a shift exactly where the range is below 0x10000, with room for what it sends.
 -- Assumes nothing.
-use Prim.Native.Nat.{ℕ, _*_}
+use Prim.Native.Nat.{_*_}
 use mathlib.Core.Path.{refl, sym, ap, _∙_}
 use native.Mathlib.Omega.{arith}
 use Rattle.range_encoder.specs.Encoder.{withRange}
