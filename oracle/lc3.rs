@@ -108,6 +108,12 @@ pub mod encoder {
                 pub bp: usize,
             }
 
+            pub fn start() -> BitstreamEncoding {
+                let mut coder = BitstreamEncoding::default();
+                coder.ac_enc_init();
+                coder
+            }
+
             pub fn coder(at: State) -> BitstreamEncoding {
                 let mut coder = BitstreamEncoding::default();
                 coder.st.low = at.low;
@@ -133,6 +139,10 @@ pub mod encoder {
 
             pub fn symbol(coder: &mut BitstreamEncoding, cumulative: i16, frequency: i16, bytes: &mut [u8]) {
                 coder.ac_encode(cumulative, frequency, bytes)
+            }
+
+            pub fn forecast(coder: &BitstreamEncoding) -> usize {
+                coder.nbits_side_forcast()
             }
 
             pub fn finish(coder: &mut BitstreamEncoding, bytes: &mut [u8]) {

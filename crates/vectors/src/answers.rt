@@ -1,6 +1,8 @@
 // What this code answers, by the kind of the case. A new module takes the next kinds and the next place.
 ghost use Prim.Native.Nat.{_≤_, _<_};
 ghost use lib.ListN.{length};
+use crate::decoder_cases;
+use crate::encoder_cases;
 use crate::reader_cases;
 use crate::side_cases;
 use crate::table_cases;
@@ -16,6 +18,8 @@ pub(crate) fn answer(kind: u8, case: &[u8], out: &mut [u8]) -> usize
         5..=8 => writer_cases::answer(kind, case, out),
         9..=10 => side_cases::answer(kind, case, out),
         11 => table_cases::answer(case, out),
+        12..=13 => decoder_cases::answer(kind, case, out),
+        14..=15 => encoder_cases::answer(kind, case, out),
         _ => 0,
     }
 }
@@ -29,6 +33,8 @@ pub(crate) fn place(kind: u8) -> usize
         5..=8 => 1,
         9..=10 => 2,
         11 => 3,
+        12..=13 => 4,
+        14..=15 => 5,
         _ => 7,
     }
 }

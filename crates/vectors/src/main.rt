@@ -1,11 +1,15 @@
 // Replays the original Rust's answers against this repository's code: records from standard input, a verdict last.
 mod agreement;
 mod answers;
+mod decoder_cases;
+mod encoder_cases;
 mod number;
 mod reader_cases;
 mod record;
 mod refusal;
 mod report;
+mod round_trip;
+mod rows;
 mod side_cases;
 mod side_record;
 mod table_cases;

@@ -31,6 +31,8 @@ fn modules(tally: Tally) {
     module(b"buffer_writer", cases[1], panics[1]);
     module(b"side_info", cases[2], panics[2]);
     module(b"tables", cases[3], panics[3]);
+    module(b"range_decoder", cases[4], panics[4]);
+    module(b"range_encoder", cases[5], panics[5]);
 }
 
 fn module(name: &[u8], cases: u64, panics: u64) {

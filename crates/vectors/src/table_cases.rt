@@ -76,7 +76,7 @@ fn verdict(passes: bool, out: &mut [u8]) -> usize
 
 // Puts the table whose count stands at `at` into `to`, and answers how many entries it has; 1,101 where it is cut
 // short, ends inside an entry or has no room.
-fn table(bytes: &[u8], at: usize, to: &mut [u16]) -> usize
+pub(crate) fn table(bytes: &[u8], at: usize, to: &mut [u16]) -> usize
     requires { ⌜ (at ≤ 65535) × (length (now to) ≡ 1100) ⌝ }
     ensures { λ r. ⌜ r ≤ 1101 ⌝ }
 {

@@ -1,0 +1,60 @@
+-- `vectors::rows::sum` is safe and ends: what is added last is below 65536. The measure is what is left of the row. Assumes
+-- nothing.
+use Prim.Native.Nat.{_≤_, _-_}
+use lib.ListN.{length}
+use borrow.Author.Needs.{needs}
+use Rattle.vectors.proofs.rows.sum.Statement.{statement}
+use Rattle.vectors.proofs.rows.sum.Tie as tie
+
+abbrev Inv-loop : tie.InvT-loop
+Inv-loop row to total₀ i₀ total i = (i ≤ to) × (to ≤ length row) × (total ≤ 66559)
+
+abbrev μ-loop : tie.MeasureT-loop
+μ-loop row to total₀ i₀ total i = to - i
+
+loop-holds : tie.Need-loop-holds Inv-loop μ-loop
+loop-holds c = search needs
+
+returns : tie.Need-returns Inv-loop μ-loop
+returns c = search needs
+
+mul-wide : tie.Need-mul-wide Inv-loop μ-loop
+mul-wide c = search needs
+
+shared-slice-read-wide : tie.Need-shared-slice-read-wide Inv-loop μ-loop
+shared-slice-read-wide c = search needs
+
+wide-requires : tie.Need-wide-requires Inv-loop μ-loop
+wide-requires c κs = search needs
+
+add-total : tie.Need-add-total Inv-loop μ-loop
+add-total c = search needs
+
+add-i : tie.Need-add-i Inv-loop μ-loop
+add-i c = search needs
+
+loop-less : tie.Need-loop-less Inv-loop μ-loop
+loop-less c = search needs
+
+loop-again : tie.Need-loop-again Inv-loop μ-loop
+loop-again c = search needs
+
+returns-2 : tie.Need-returns-2 Inv-loop μ-loop
+returns-2 c = search needs
+
+pub sum-spec : {M : Type 1} → statement M
+sum-spec =
+    tie.close
+    (tie.spec
+    Inv-loop
+    μ-loop
+    loop-holds
+    returns
+    mul-wide
+    shared-slice-read-wide
+    wide-requires
+    add-total
+    add-i
+    loop-less
+    loop-again
+    returns-2)
