@@ -10,10 +10,10 @@ use crate::records::{caught, refused, OneOfEach, Records, Rng, ACCEPTED, PANICKE
 const FAR: usize = 65_535;
 // the longest chain; its answer has to fit into what vectors sets aside for one
 const CHAIN: usize = 100;
-// One case in so many of a run's random ones is a chain.
+// Of so many random cases one is a chain, one a start, and the others single steps.
 const CHAINS: usize = 10;
 
-// The ends of what a range may be, and where a unit of a thousandth, or the bytes that the smallest parts want, change.
+// The ends of what a range may be, and where its unit, or the number of bytes that the smallest parts want, changes.
 const RANGES: [u32; 18] = [
     0x10000, 0x10001, 0x103ff, 0x10400, 0x157ff, 0x15800, 0x1ffff, 0x20000, 0x3fbff, 0x3fc00, 0x3ffff, 0x40000,
     0x7fffff, 0x800000, 0xfffbff, 0xfffc00, 0xfffffe, 0xffffff,

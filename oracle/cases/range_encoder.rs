@@ -152,7 +152,7 @@ struct Seen {
     part: usize,
 }
 
-// How many 0xFFs a carry has passed through between two states: as bytes they are 0.
+// How many 0xFFs a carry has passed through between two states: sent so, they are bytes of 0.
 fn carried_through(from: State, to: State, bytes: &[u8]) -> i32 {
     let place = from.bp + (from.cache >= 0) as usize;
     match from.carry_count {
@@ -319,7 +319,7 @@ fn random(rng: &mut Rng) -> List {
 enum Aim {
     // low at 0xFF0000, or at a carry, and one to each side
     Begin(u32),
-    // a range of 0x10000 before or behind a shift, and one unit less
+    // a range of 0x10000 before or behind a shift, and one less
     Width(u32),
     // the end at the last number of a step of 0x10000, and one to each side
     End(u32),
@@ -361,7 +361,7 @@ fn reaching(rng: &mut Rng, at: State, aim: Aim) -> Option<(usize, usize)> {
                 .then(|| (rng.below(TOTAL - frequency + 1), frequency))
         }
         Aim::End(last) => {
-            // a range of 0x10000 and more, and below 0x20000 as the unit is
+            // so that the range is from 0x10000 on, and below 0x20000, as the unit is below 0x10000
             let frequency = (0x10000 / unit) as usize + 1;
             let reaches = |end: &usize| (at.low + unit * *end as u32) & 0xffff == last;
             (frequency..=TOTAL).find(reaches).map(|end| (end - frequency, frequency))
