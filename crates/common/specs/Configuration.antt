@@ -18,6 +18,10 @@ abbrev pub ne : ℕ → ℕ → ℕ
 ne duration fs =
     getD (getD ((80 ∷ 160 ∷ 240 ∷ 320 ∷ 400 ∷ []) ∷ (60 ∷ 120 ∷ 180 ∷ 240 ∷ 300 ∷ []) ∷ []) duration []) fs 0
 
+-- "frame not 20..400 bytes" is refusal 2
+abbrev pub frameLength : ℕ → Bool
+frameLength bytes = leb 20 bytes && leb bytes 400
+
 -- the number of encoded lines, or refusal 1
 abbrev pub linesOf : Configuration → Answer ℕ
 linesOf c = given (not (configurationPasses c)) outsideLimits (accepted (ne (c .duration) (c .«fs_ind»)))

@@ -8,24 +8,15 @@ use borrow.Author.Tests.{le-leb, lt-leb}
 use lib.Dec.{leb}
 use lib.ListN.{length}
 use Rattle.common.specs.Reply.{Reply, accepted, refused, outsideLimits, wrongLength, fieldOutside}
-use Rattle.common.specs.Configuration.{configurationPasses, ne}
+use Rattle.common.specs.Configuration.{configurationPasses, ne, frameLength}
 use Rattle.common.specs.declared.configuration.Configuration.{Configuration}
 use Rattle.common.proofs.Bools.{and-both, and-first-fails, and-second-fails}
 use Rattle.buffer_reader.specs.declared.Cursor.{Cursor}
-use Rattle.side_info.specs.Reader.{readSide, readAll, frameLength}
+use Rattle.side_info.specs.Reader.{readSide, readAll}
 use Rattle.side_info.specs.Record.{sidePasses}
 use Rattle.side_info.specs.Layout.{sideValues, sideWidths, roomFor, putFields}
 use Rattle.side_info.specs.Writer.{writeFields, fieldsWritten, writeSide, sideWritten}
 use Rattle.side_info.specs.declared.SideInfo.{SideInfo}
-
-pub too-short : (len : ℕ) → len < 20 → frameLength len ≡ false
-too-short len h = and-first-fails (leb len 400) (lt-leb 20 len h)
-
-pub too-long : (len : ℕ) → 400 < len → frameLength len ≡ false
-too-long len h = and-second-fails (leb 20 len) (lt-leb len 400 h)
-
-pub right-length : (len : ℕ) → 20 ≤ len → len ≤ 400 → frameLength len ≡ true
-right-length len p q = and-both (leb 20 len) (leb len 400) (le-leb 20 len p) (le-leb len 400 q)
 
 module _ (k : Configuration) (f : List ℕ) (c : Cursor) where
   pub read-outside : configurationPasses k ≡ false → readSide k f c ≡ refused outsideLimits

@@ -8,14 +8,14 @@ use borrow.Author.Tests.{not-false}
 use lib.Dec.{leb, ltb, eqb}
 use lib.ListN.{length}
 use Rattle.common.specs.Reply.{side, accepted, outsideLimits, wrongLength, bandwidthTooLarge, lastnzTooLarge, jointTooLarge25, jointTooLarge24}
-use Rattle.common.specs.Configuration.{configurationPasses, ne}
+use Rattle.common.specs.Configuration.{configurationPasses, ne, frameLength}
 use Rattle.common.specs.declared.configuration.Configuration.{Configuration}
 use Rattle.common.proofs.Replies.{given-split}
 use Rattle.buffer_reader.specs.Steps.{found, refusing, ifPresent}
 use Rattle.buffer_reader.specs.declared.Cursor.{Cursor}
 use Rattle.buffer_reader.proofs.Steps.{Agree, Local, local-found, local-next, local-refusing, local-if, local-present, local-field, local-flag}
 use Rattle.side_info.specs.Joint.{snsOf}
-use Rattle.side_info.specs.Reader.{sideField, sideFlag, bandwidthBits, readBandwidth, lastnzBits, readLastnz, readJoint, fromFilter, fromShape, fromSns, fromFlags, fromLevel, readAll, frameLength, readSide}
+use Rattle.side_info.specs.Reader.{sideField, sideFlag, bandwidthBits, readBandwidth, lastnzBits, readLastnz, readJoint, fromFilter, fromShape, fromSns, fromFlags, fromLevel, readAll, readSide}
 use Rattle.side_info.specs.declared.Sns.{Sns}
 use Rattle.side_info.specs.declared.SideInfo.{SideInfo}
 use Rattle.side_info.specs.declared.reader.Opening.{Opening}

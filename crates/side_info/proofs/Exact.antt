@@ -8,12 +8,12 @@ use native.Mathlib.Omega.{arith}
 use borrow.Author.Tests.{not-false}
 use lib.ListN.{length}
 use Rattle.common.specs.Reply.{Answer, accepted, unlessRefused, outsideLimits, wrongLength, fieldOutside}
-use Rattle.common.specs.Configuration.{configurationPasses, ne}
+use Rattle.common.specs.Configuration.{configurationPasses, ne, frameLength}
 use Rattle.common.specs.declared.configuration.Configuration.{Configuration}
 use Rattle.common.proofs.Configurations.{fs-limit, ne-range}
 use Rattle.common.proofs.Replies.{accepted-same, then-split, given-split}
 use Rattle.buffer_reader.specs.declared.Cursor.{Cursor}
-use Rattle.side_info.specs.Reader.{readSide, frameLength}
+use Rattle.side_info.specs.Reader.{readSide}
 use Rattle.side_info.specs.Record.{sidePasses}
 use Rattle.side_info.specs.Layout.{sideValues, sideWidths, sideLength, roomFor, putFields}
 use Rattle.side_info.specs.Writer.{writeSide, sideWritten}

@@ -9,7 +9,7 @@ use borrow.Author.Tests.{ltb-true, ltb-false, leb-false, le-leb, eq-eqb}
 use lib.Dec.{leb, ltb, eqb}
 use lib.ListN.{length}
 use Rattle.common.specs.Reply.{Reply, Answer, accepted, refused, side, given, andThen, outsideLimits, wrongLength, bandwidthTooLarge, lastnzTooLarge, jointTooLarge25, jointTooLarge24}
-use Rattle.common.specs.Configuration.{configurationPasses, ne}
+use Rattle.common.specs.Configuration.{configurationPasses, ne, frameLength}
 use Rattle.common.specs.declared.configuration.Configuration.{Configuration}
 use Rattle.common.proofs.Bools.{and-both}
 use Rattle.buffer_reader.specs.Steps.{Reading, ifPresent}
@@ -17,7 +17,7 @@ use Rattle.buffer_reader.specs.declared.Cursor.{Cursor}
 use Rattle.buffer_reader.proofs.Steps.{Holds, holds-at, holds-given, holds-then, field-holds, flag-holds}
 use Rattle.side_info.specs.Joint.{snsOf25, snsOf24, snsOf}
 use Rattle.side_info.specs.Record.{mostIf, snsPasses, sidePasses}
-use Rattle.side_info.specs.Reader.{sideField, sideFlag, bandwidthBits, readBandwidth, lastnzBits, readLastnz, readJoint, fromFilter, fromShape, fromSns, fromFlags, fromLevel, readAll, frameLength, readSide}
+use Rattle.side_info.specs.Reader.{sideField, sideFlag, bandwidthBits, readBandwidth, lastnzBits, readLastnz, readJoint, fromFilter, fromShape, fromSns, fromFlags, fromLevel, readAll, readSide}
 use Rattle.side_info.specs.declared.Sns.{Sns}
 use Rattle.side_info.specs.declared.SideInfo.{SideInfo}
 use Rattle.side_info.specs.declared.reader.Opening.{Opening}

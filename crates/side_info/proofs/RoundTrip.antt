@@ -12,7 +12,7 @@ use lib.Dec.{leb, ltb, eqb}
 use lib.ListN.{length, getD}
 use Rattle.common.specs.Reply.{Answer, accepted, side, within, andThen}
 use Rattle.common.specs.Tables.{total}
-use Rattle.common.specs.Configuration.{configurationPasses, ne}
+use Rattle.common.specs.Configuration.{configurationPasses, ne, frameLength}
 use Rattle.common.specs.declared.configuration.Configuration.{Configuration}
 use Rattle.common.proofs.Bools.{and-left, and-right, or-first-fails}
 use Rattle.common.proofs.Configurations.{fs-limit, ne-range}
@@ -25,7 +25,7 @@ use Rattle.buffer_reader.proofs.Rooms.{listed-low, wanted-holds}
 use Rattle.buffer_reader.proofs.Answers.{bits-taken, bit-taken}
 use Rattle.side_info.specs.Joint.{snsOf, partOf, jointOf}
 use Rattle.side_info.specs.Reader.{sideField, sideFlag, bandwidthBits, lastnzBits, readBandwidth, readLastnz, readJoint}
-use Rattle.side_info.specs.Reader.{fromFilter, fromShape, fromSns, fromFlags, fromLevel, readAll, frameLength, readSide, sideInfoOf}
+use Rattle.side_info.specs.Reader.{fromFilter, fromShape, fromSns, fromFlags, fromLevel, readAll, readSide, sideInfoOf}
 use Rattle.side_info.specs.Record.{mostIf, sidePasses, snsPasses}
 use Rattle.side_info.specs.Layout.{sideValues, sideWidths, sideLength, putFields}
 use Rattle.side_info.specs.declared.Sns.{Sns}

@@ -9,7 +9,7 @@ use borrow.Author.Tests.{leb-true, ltb-true, not-false}
 use lib.Dec.{leb, ltb, eqb}
 use lib.ListN.{length}
 use Rattle.common.specs.Reply.{Reply, refused, nowhere, side, outsideLimits, wrongLength, bandwidthTooLarge, lastnzTooLarge, jointTooLarge25, jointTooLarge24}
-use Rattle.common.specs.Configuration.{configurationPasses, ne}
+use Rattle.common.specs.Configuration.{configurationPasses, ne, frameLength}
 use Rattle.common.specs.declared.configuration.Configuration.{Configuration}
 use Rattle.common.proofs.Bools.{and-left, and-right}
 use Rattle.common.proofs.Configurations.{fs-limit, ne-range}
@@ -19,7 +19,7 @@ use Rattle.buffer_reader.proofs.Steps.{flag-holds}
 use Rattle.buffer_reader.proofs.Rooms.{listed-low}
 use Rattle.buffer_reader.proofs.Roomy.{Room, Ahead, Ends, ends-refused, ends-given, Roomy, roomy-more, roomy-found, roomy-known, roomy-next, roomy-refusing, roomy-present, roomy-field, roomy-flag}
 use Rattle.side_info.specs.Joint.{snsOf}
-use Rattle.side_info.specs.Reader.{sideField, sideFlag, bandwidthBits, readBandwidth, lastnzBits, readLastnz, readJoint, fromFilter, fromShape, fromSns, fromFlags, fromLevel, readAll, frameLength, readSide}
+use Rattle.side_info.specs.Reader.{sideField, sideFlag, bandwidthBits, readBandwidth, lastnzBits, readLastnz, readJoint, fromFilter, fromShape, fromSns, fromFlags, fromLevel, readAll, readSide}
 use Rattle.side_info.specs.declared.Sns.{Sns}
 use Rattle.side_info.specs.declared.reader.Opening.{Opening}
 use Rattle.side_info.specs.declared.reader.Flags.{Flags}

@@ -5,7 +5,7 @@ use mathlib.Core.List.{[], _∷_}
 use lib.Dec.{leb, ltb, eqb}
 use lib.ListN.{length, getD}
 use Rattle.common.specs.Reply.{side, Reply, Answer, accepted, refused, given, outsideLimits, wrongLength, bandwidthTooLarge, lastnzTooLarge, jointTooLarge25, jointTooLarge24}
-use Rattle.common.specs.Configuration.{configurationPasses, ne}
+use Rattle.common.specs.Configuration.{configurationPasses, ne, frameLength}
 use Rattle.common.specs.declared.configuration.Configuration.{Configuration}
 use Rattle.buffer_reader.specs.Reads
 use Rattle.buffer_reader.specs.Steps.{Reading, found, next, refusing, ifPresent, fieldIn, flagIn}
@@ -114,10 +114,6 @@ fromLevel bandwidth lastnz =
 -- all of it
 abbrev pub readAll : ℕ → ℕ → Reading SideInfo
 readAll fs ne = next (readBandwidth fs) (λ bandwidth. next (readLastnz ne) (λ lastnz. fromLevel bandwidth lastnz))
-
--- "frame not 20..400 bytes"
-abbrev pub frameLength : ℕ → Bool
-frameLength len = leb 20 len && leb len 400
 
 -- refusals 1 and 2, then the fields
 abbrev pub readSide : Configuration → Reading SideInfo

@@ -5,10 +5,9 @@ use mathlib.Core.Bool.{not}
 use mathlib.Core.List.{List}
 use lib.ListN.{length}
 use Rattle.common.specs.Reply.{Reply, Answer, accepted, refused, given, andThen, unlessRefused, outsideLimits, wrongLength, fieldOutside, noTailRoom}
-use Rattle.common.specs.Configuration.{configurationPasses, ne}
+use Rattle.common.specs.Configuration.{configurationPasses, ne, frameLength}
 use Rattle.common.specs.declared.configuration.Configuration.{Configuration}
 use Rattle.buffer_reader.specs.declared.Cursor.{Cursor}
-use Rattle.side_info.specs.Reader.{frameLength}
 use Rattle.side_info.specs.Record.{sidePasses}
 use Rattle.side_info.specs.Layout.{sideValues, sideWidths, roomFor, putFields}
 use Rattle.side_info.specs.declared.SideInfo.{SideInfo}

@@ -4,8 +4,8 @@ use mathlib.Core.Path.{_≡_, refl, sym, ap, _∙_}
 use mathlib.Core.Bool.{true}
 use lib.ListN.{length}
 use Rattle.common.specs.Configuration.{configurationPasses, ne, replyOf}
-use Rattle.common.proofs.Configurations.{lines-known, lines-unknown, ne-range, fs-limit}
-use Rattle.side_info.proofs.Answers.{too-short, too-long, right-length, read-outside, read-length, read-on}
+use Rattle.common.proofs.Configurations.{lines-known, lines-unknown, ne-range, fs-limit, too-short, too-long, right-length}
+use Rattle.side_info.proofs.Answers.{read-outside, read-length, read-on}
 use borrow.Author.Needs.{needs}
 use Rattle.side_info.proofs.reader.read.Statement.{statement}
 use Rattle.side_info.proofs.reader.read.Tie as tie

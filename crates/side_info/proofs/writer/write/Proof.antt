@@ -8,10 +8,10 @@ use lib.ListN.{length}
 use Rattle.common.specs.Configuration.{configurationPasses, ne, replyOf}
 use Rattle.common.specs.Tables.{total}
 use Rattle.common.proofs.Bools.{refuted, confirmed}
-use Rattle.common.proofs.Configurations.{lines-known, lines-unknown, ne-range, fs-limit}
+use Rattle.common.proofs.Configurations.{lines-known, lines-unknown, ne-range, fs-limit, too-short, too-long, right-length}
 use Rattle.side_info.specs.Record.{sidePasses}
 use Rattle.side_info.specs.Layout.{sideWidths}
-use Rattle.side_info.proofs.Answers.{too-short, too-long, right-length, write-outside, write-length, write-field, write-on}
+use Rattle.side_info.proofs.Answers.{write-outside, write-length, write-field, write-on}
 use Rattle.side_info.proofs.Joints.{sns-limits}
 use Rattle.side_info.proofs.Lengths.{length-range}
 use Rattle.side_info.proofs.RoundTrip.{side-limits}
