@@ -6,3 +6,9 @@ pub mod Turns
 pub mod Answers
 pub mod Hand
 pub mod Unique
+pub mod Costs
+pub mod LastPairs
+pub mod Runs
+pub mod Refusals
+pub mod Meanings
+pub mod EstimateUnique

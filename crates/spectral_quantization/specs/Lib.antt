@@ -1,3 +1,4 @@
 pub mod Single
 pub mod Quantiser
 pub mod Gain
+pub mod Estimate

@@ -1,0 +1,4 @@
+pub mod Firsts
+pub mod Escapes
+pub mod Lookups
+pub mod Magnitudes

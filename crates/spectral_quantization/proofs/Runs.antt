@@ -1,0 +1,79 @@
+-- One pair more: the running numbers behind it, by what the parts of the step found, and how far they have come.
+-- Assumes nothing.
+use Prim.Native.Nat.{ℕ, _+_, _*_, _≤_}
+use mathlib.Core.Path.{_≡_, refl, ap, _∙_}
+use mathlib.Core.Bool.{true, false}
+use mathlib.Core.List.{List}
+use native.Mathlib.Omega.{arith}
+use native.Mathlib.Numerals.{add-one}
+use lib.ListN.{getD}
+use Rattle.contexts.specs.Contexts.{lookupStart, contextBehind}
+use Rattle.contexts.proofs.Lookups.{behind-most}
+use Rattle.spectral_quantization.specs.declared.estimate.BitConsumption.{BitConsumption}
+use Rattle.spectral_quantization.specs.declared.estimate.Frame.{Frame}
+use Rattle.spectral_quantization.specs.declared.estimate.Running.{Running}
+use Rattle.spectral_quantization.specs.Estimate.{wholeBits, pairCost, leastBits, keeps, beforeAll, onPair, behind, pairsOf, numbersOf, consumption, Bounded}
+
+-- what the parts of the step found: where the lookup begins, the pair's cost, its least bits and the context behind it
+pub record Found (lookup bits : List ℕ) (f : Frame) (p a b : ℕ) (s : Running) (cost least context : ℕ) : Type 0 where
+  pub cost-is : cost ≡ pairCost lookup bits (f .mode) (lookupStart (s .context) (f .rate) (f .ne) (2 * p)) a b
+  pub cost-most : cost ≤ 1044465
+  pub least-is : least ≡ leastBits (f .mode) a b
+  pub least-most : least ≤ 4
+  pub context-is : context ≡ contextBehind (s .context) a b
+
+module _ (lookup bits : List ℕ) (f : Frame) (p a b : ℕ) (s : Running) (cost least context : ℕ) (g : Found lookup bits f p a b s cost least context) where
+  -- the lines up to the pair are kept, or what was kept before stays
+  abbrev pub moved : Running
+  moved = record { sum = s .sum + cost; least = s .least + least; place = 2 * p + 2; kept = s .sum + cost; context = context }
+
+  abbrev pub stayed : Running
+  stayed = record { sum = s .sum + cost; least = s .least + least; place = s .place; kept = s .kept; context = context }
+
+  pub pair-moves : keeps (f .target) a b (s .sum + cost) ≡ true → moved ≡ onPair lookup bits f p a b s
+  unfolding onPair
+  pair-moves k = rw (← g .cost-is, ← g .least-is, ← g .context-is, k) refl
+
+  pub pair-stays : keeps (f .target) a b (s .sum + cost) ≡ false → stayed ≡ onPair lookup bits f p a b s
+  unfolding onPair
+  pair-stays k = rw (← g .cost-is, ← g .least-is, ← g .context-is, k) refl
+
+  module _ (small : a ≤ 32768) (small₂ : b ≤ 32768) (e : Bounded p s) where
+    low : context ≤ 255
+    low = rw (g .context-is) (behind-most (s .context) a b (omega arith) (omega arith))
+
+    pub moved-bounded : Bounded (p + 1) moved
+    moved-bounded =
+        record {
+          sum = omega (arith, e .sum, g .cost-most);
+          kept = omega (arith, e .sum, g .cost-most);
+          least = omega (arith, e .least, g .least-most);
+          context = low;
+        }
+
+    pub stayed-bounded : Bounded (p + 1) stayed
+    stayed-bounded =
+        record {
+          sum = omega (arith, e .sum, g .cost-most);
+          kept = omega (arith, e .kept);
+          least = omega (arith, e .least, g .least-most);
+          context = low;
+        }
+
+-- before the first pair, and behind one pair more
+pub start-bounded : Bounded 0 beforeAll
+start-bounded = record { sum = omega arith; kept = omega arith; least = omega arith; context = omega arith }
+
+module _ (lookup bits : List ℕ) (f : Frame) (xs : List ℕ) where
+  pub behind-none : beforeAll ≡ behind lookup bits f xs 0
+  unfolding behind
+  behind-none = refl
+
+  pub behind-more : (p : ℕ) → behind lookup bits f xs (p + 1) ≡ onPair lookup bits f p (getD xs (2 * p) 0) (getD xs (2 * p + 1) 0) (behind lookup bits f xs p)
+  unfolding behind
+  behind-more p = rw add-one refl
+
+  -- the numbers returned, by what was found on the way
+  pub numbers-are : (pairs whole trunc : ℕ) (s : Running) → pairs ≡ pairsOf xs → s ≡ behind lookup bits f xs pairs → whole ≡ wholeBits (s .sum) → trunc ≡ wholeBits (s .kept) → _≡_ {A = BitConsumption} (record { «rate_flag» = f .rate; «mode_flag» = f .mode; lastnz = 2 * pairs; «lastnz_trunc» = s .place; «nbits_est» = whole + s .least; «nbits_trunc» = trunc; «nbits_lsb» = s .least }) (consumption lookup bits f xs)
+  numbers-are pairs whole trunc s n e w t =
+      rw (w, t) refl ∙ ap (numbersOf f pairs) e ∙ ap (λ (k : ℕ). numbersOf f k (behind lookup bits f xs k)) n
