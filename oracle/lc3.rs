@@ -188,6 +188,8 @@ pub mod encoder {
             use super::*;
 
             pub struct Estimate {
+                pub rate_flag: usize,
+                pub mode_flag: bool,
                 pub lastnz: usize,
                 pub lastnz_trunc: usize,
                 pub nbits_est: usize,
@@ -198,6 +200,8 @@ pub mod encoder {
             pub fn estimate(ne: usize, fs_ind: usize, x_q: &mut [i16], nbits: usize, target: usize) -> Estimate {
                 let b = SpectralQuantization::new(ne, fs_ind).compute_bit_consumption(x_q, nbits, target);
                 Estimate {
+                    rate_flag: b.rate_flag,
+                    mode_flag: b.mode_flag,
                     lastnz: b.lastnz,
                     lastnz_trunc: b.lastnz_trunc,
                     nbits_est: b.nbits_est,

@@ -7,17 +7,22 @@
 mod cases {
     pub mod buffer_reader;
     pub mod buffer_writer;
+    pub mod estimate;
+    pub mod floats;
+    pub mod gain_search;
+    pub mod quantiser;
     pub mod range_decoder;
     pub mod range_encoder;
     pub mod recording;
     pub mod rows;
     pub mod side_info;
+    pub mod spectral_quantization;
     pub mod tables;
 }
 mod lc3;
 mod records;
 
-use cases::{buffer_reader, buffer_writer, range_decoder, range_encoder, recording, side_info};
+use cases::{buffer_reader, buffer_writer, range_decoder, range_encoder, recording, side_info, spectral_quantization};
 // the six files name these from the crate's root
 use lc3::{common, encoder, tables};
 use records::Records;
@@ -28,12 +33,13 @@ struct Module {
     sample: fn(&mut Records),
 }
 
-const MODULES: [Module; 5] = [
+const MODULES: [Module; 6] = [
     Module { name: "buffer_reader", run: buffer_reader::run, sample: buffer_reader::sample },
     Module { name: "buffer_writer", run: buffer_writer::run, sample: buffer_writer::sample },
     Module { name: "side_info", run: side_info::run, sample: side_info::sample },
     Module { name: "range_decoder", run: range_decoder::run, sample: range_decoder::sample },
     Module { name: "range_encoder", run: range_encoder::run, sample: range_encoder::sample },
+    Module { name: "spectral_quantization", run: spectral_quantization::run, sample: spectral_quantization::sample },
 ];
 
 fn main() {

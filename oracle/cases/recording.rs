@@ -6,7 +6,7 @@ use super::tables;
 use crate::records::{Records, ACCEPTED};
 
 // The tag and the content of the field at the front, if all of it is there.
-fn field(bytes: &[u8]) -> Option<(u8, &[u8])> {
+pub fn field(bytes: &[u8]) -> Option<(u8, &[u8])> {
     let len = u16::from_be_bytes([*bytes.get(1)?, *bytes.get(2)?]) as usize;
     Some((bytes[0], bytes.get(3..3 + len)?))
 }

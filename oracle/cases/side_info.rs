@@ -32,11 +32,11 @@ pub struct Config {
 }
 
 impl Config {
-    fn all() -> impl Iterator<Item = Config> {
+    pub fn all() -> impl Iterator<Item = Config> {
         (0..10).map(|i| Config { fs_ind: i % 5, duration: i / 5 })
     }
 
-    fn ne(self) -> usize {
+    pub fn ne(self) -> usize {
         [80, 60][self.duration] * (self.fs_ind + 1)
     }
 

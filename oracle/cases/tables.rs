@@ -14,14 +14,14 @@ pub fn has_sizes(set: &Set) -> bool {
     set.iter().map(Vec::len).eq(SIZES)
 }
 
+// As a case has them: each table behind the count of its bytes.
+pub fn in_case(set: &Set) -> Vec<u8> {
+    set.iter().flat_map(|table| (table.len() as u16).to_be_bytes().into_iter().chain(table.iter().copied())).collect()
+}
+
 pub fn put(out: &mut Records, set: &Set, passes: bool) {
-    let mut case = Vec::new();
-    for table in set {
-        case.extend((table.len() as u16).to_be_bytes());
-        case.extend(table);
-    }
     let answer = if passes { vec![ACCEPTED] } else { refused(3, &[]) };
-    out.put(11, &case, &answer);
+    out.put(11, &in_case(set), &answer);
 }
 
 fn entry(table: &[u8], at: usize) -> u16 {

@@ -1,3 +1,5 @@
 pub mod Verdicts
 pub mod Places
 pub mod Coded
+pub mod Patterns
+pub mod Signs

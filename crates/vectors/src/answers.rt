@@ -3,6 +3,8 @@ ghost use Prim.Native.Nat.{_≤_, _<_};
 ghost use lib.ListN.{length};
 use crate::decoder_cases;
 use crate::encoder_cases;
+use crate::gain_cases;
+use crate::quantiser_cases;
 use crate::reader_cases;
 use crate::side_cases;
 use crate::table_cases;
@@ -17,9 +19,11 @@ pub(crate) fn answer(kind: u8, case: &[u8], out: &mut [u8]) -> usize
         1..=4 => reader_cases::answer(kind, case, out),
         5..=8 => writer_cases::answer(kind, case, out),
         9..=10 => side_cases::answer(kind, case, out),
-        11 => table_cases::answer(case, out),
+        11 | 18 => table_cases::answer(kind, case, out),
         12..=13 => decoder_cases::answer(kind, case, out),
         14..=15 => encoder_cases::answer(kind, case, out),
+        16 => quantiser_cases::answer(case, out),
+        17 => gain_cases::answer(case, out),
         _ => 0,
     }
 }
@@ -35,6 +39,7 @@ pub(crate) fn place(kind: u8) -> usize
         11 => 3,
         12..=13 => 4,
         14..=15 => 5,
+        16..=18 => 6,
         _ => 7,
     }
 }

@@ -57,7 +57,7 @@ pub(crate) fn put_byte(out: &mut [u8], at: usize, byte: u8)
     out[at] = byte;
 }
 
-fn put_two(out: &mut [u8], at: usize, n: usize)
+pub(crate) fn put_two(out: &mut [u8], at: usize, n: usize)
     requires { ⌜ (at + 2 ≤ length (now out)) × (n < 65536) ⌝ }
     ensures { λ _. ⌜ now (out .exit) ≡ withTwo (now (out .entry)) at n ⌝ }
 {

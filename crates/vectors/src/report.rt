@@ -33,6 +33,7 @@ fn modules(tally: Tally) {
     module(b"tables", cases[3], panics[3]);
     module(b"range_decoder", cases[4], panics[4]);
     module(b"range_encoder", cases[5], panics[5]);
+    module(b"spectral_quantization", cases[6], panics[6]);
 }
 
 fn module(name: &[u8], cases: u64, panics: u64) {

@@ -1,14 +1,15 @@
-// Cases of the table set's check: the five tables, each behind the count of its bytes, two bytes. Their answers are
-// document 01's, since the Rust has no such check.
+// Cases with a table set: the five tables, each behind the count of its bytes, two bytes. Estimates by the set stand
+// behind it. A set alone is checked; there the answers are document 01's, since the Rust has no such check.
 ghost use Prim.Native.Nat.{_≤_};
 ghost use mathlib.Core.Path.{_≡_};
 ghost use lib.ListN.{length};
+use crate::estimate_cases;
 use crate::number::put_byte;
 use crate::number::two;
 use crate::refusal;
 use common::tables::tables_pass;
 
-pub(crate) fn answer(case: &[u8], out: &mut [u8]) -> usize
+pub(crate) fn answer(kind: u8, case: &[u8], out: &mut [u8]) -> usize
     requires { ⌜ 4096 ≤ length (now out) ⌝ }
     ensures { λ r. ⌜ r ≤ length (now (out .exit)) ⌝ }
 {
@@ -23,11 +24,11 @@ pub(crate) fn answer(case: &[u8], out: &mut [u8]) -> usize
         return 0;
     }
     let end = 2 + count;
-    rest_answer(&case[2..end], &case[end..], out)
+    rest_answer(kind, &case[2..end], &case[end..], out)
 }
 
 // The four tables behind lookup. One that is malformed is over 1,100, whatever then stands behind it.
-fn rest_answer(lookup: &[u8], rest: &[u8], out: &mut [u8]) -> usize
+fn rest_answer(kind: u8, lookup: &[u8], rest: &[u8], out: &mut [u8]) -> usize
     requires { ⌜ 4096 ≤ length (now out) ⌝ }
     ensures { λ r. ⌜ r ≤ length (now (out .exit)) ⌝ }
 {
@@ -42,17 +43,43 @@ fn rest_answer(lookup: &[u8], rest: &[u8], out: &mut [u8]) -> usize
     if 1100 < larger(larger(f, b), larger(o, c)) {
         return 0;
     }
-    if rest.len() != 8 + 2 * (f + b + o + c) {
+    let end = 8 + 2 * (f + b + o + c);
+    if rest.len() < end {
+        return 0;
+    }
+    by_set(
+        kind,
+        lookup,
+        &frequencies[0..f],
+        &bits[0..b],
+        &orders[0..o],
+        &coefficients[0..c],
+        &rest[end..],
+        out,
+    )
+}
+
+fn by_set(
+    kind: u8,
+    lookup: &[u8],
+    frequencies: &[u16],
+    bits: &[u16],
+    orders: &[u16],
+    coefficients: &[u16],
+    behind: &[u8],
+    out: &mut [u8],
+) -> usize
+    requires { ⌜ 4096 ≤ length (now out) ⌝ }
+    ensures { λ r. ⌜ r ≤ length (now (out .exit)) ⌝ }
+{
+    if kind == 18 {
+        return estimate_cases::answer(lookup, frequencies, bits, orders, coefficients, behind, out);
+    }
+    if behind.len() != 0 {
         return 0;
     }
     verdict(
-        tables_pass(
-            lookup,
-            &frequencies[0..f],
-            &bits[0..b],
-            &orders[0..o],
-            &coefficients[0..c],
-        ),
+        tables_pass(lookup, frequencies, bits, orders, coefficients),
         out,
     )
 }
