@@ -7,7 +7,6 @@ use Rattle.common.proofs.Bools.{by-test}
 use Rattle.range_encoder.specs.Encoder.{shiftsOf, symbolAdded, turn, encoded, Sound}
 use Rattle.range_encoder.specs.declared.EncoderState.{EncoderState}
 use Rattle.range_encoder.proofs.States.{shifts-turn}
-use Rattle.range_encoder.proofs.Symbols.{Shares}
 use Rattle.range_encoder.proofs.Carry.{sound-encoded}
 
 turn-adds : (s : EncoderState) → shiftsOf (turn s) ≤ shiftsOf s + 1

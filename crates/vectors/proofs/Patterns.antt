@@ -1,7 +1,6 @@
 -- A pattern of 32 bits that is no NaN's. Assumes nothing.
 use Prim.Native.Nat.{ℕ, _%_, _≤_}
 use mathlib.Core.Bool.{not}
-use native.Mathlib.Omega.{arith}
 use borrow.Author.Tests.{le-ltb}
 use lib.Dec.{T}
 use lib.Ieee.{binary32, nanBits}

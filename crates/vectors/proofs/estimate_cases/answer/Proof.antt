@@ -1,6 +1,6 @@
 -- `vectors::estimate_cases::answer` is safe and ends. The invariant: the list and `out` reach to the next estimate and its
 -- answer, and `out` keeps its length. Each estimate has a byte at least; the measure is what is left. Assumes nothing.
-use Prim.Native.Nat.{_*_, _≤_, _-_}
+use Prim.Native.Nat.{_≤_, _-_}
 use mathlib.Core.Path.{_≡_}
 use lib.ListN.{length}
 use borrow.Author.Needs.{needs}
