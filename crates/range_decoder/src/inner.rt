@@ -1,8 +1,7 @@
 // The symbol step without the checks of what was lent, for the frame reader.
 ghost use mathlib.Core.Path.{_≡_};
 ghost use mathlib.Core.Bool.{true};
-ghost use Prim.Native.Nat.{_*_, _≤_, _<_};
-ghost use lib.ListN.{length};
+ghost use Prim.Native.Nat.{_*_, _<_};
 ghost use Rattle.common.specs.Tables.{rowPasses};
 ghost use Rattle.range_decoder.specs.Decoder.{Below, rangePasses, symbolStep, symbolOf, appendByte, renormalised, appendedOf};
 use crate::CodecError;

@@ -1,6 +1,6 @@
 // What the finish decides, before it sends anything.
 ghost use mathlib.Core.Path.{_≡_};
-ghost use Prim.Native.Nat.{_+_, _-_, _*_, _%_, _^_, _≤_, _<_};
+ghost use Prim.Native.Nat.{_+_, _-_, _%_, _^_, _≤_, _<_};
 ghost use Rattle.range_encoder.specs.Encoder.{Fits};
 ghost use Rattle.range_encoder.specs.Finish.{roundedUp, highOf, endingAt, endingBy, ending as Finish·ending, endingOf};
 use crate::EncoderState;

@@ -1,16 +1,13 @@
 -- Which check of the side information's reader and writer holds, and what the frame then holds.
 -- Assumes nothing.
-use Prim.Native.Nat.{ℕ, _*_, _≤_, _<_}
+use Prim.Native.Nat.{ℕ, _*_}
 use mathlib.Core.Path.{_≡_, refl}
 use mathlib.Core.Bool.{true, false}
 use mathlib.Core.List.{List}
-use borrow.Author.Tests.{le-leb, lt-leb}
-use lib.Dec.{leb}
 use lib.ListN.{length}
 use Rattle.common.specs.Reply.{Reply, accepted, refused, outsideLimits, wrongLength, fieldOutside}
 use Rattle.common.specs.Configuration.{configurationPasses, ne, frameLength}
 use Rattle.common.specs.declared.configuration.Configuration.{Configuration}
-use Rattle.common.proofs.Bools.{and-both, and-first-fails, and-second-fails}
 use Rattle.buffer_reader.specs.declared.Cursor.{Cursor}
 use Rattle.side_info.specs.Reader.{readSide, readAll}
 use Rattle.side_info.specs.Record.{sidePasses}
