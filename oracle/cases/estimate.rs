@@ -28,7 +28,8 @@ struct Frame {
 
 #[derive(Default)]
 pub struct Seen {
-    sets: usize,
+    // times that a table set was put in force
+    turns: usize,
     estimates: usize,
     configs: std::collections::BTreeSet<(Config, bool, bool)>,
     // estimates where lines are cut off, and where the sum is a whole number of bits
@@ -45,10 +46,10 @@ pub struct Seen {
 impl Seen {
     pub fn say(&self) {
         eprintln!(
-            "oracle estimate: {} estimates by {} table sets, in {} kinds of configuration, rate flag and mode flag; with \
-             lines cut off: {}, with escapes: {}, with a sum of whole bits: {}; largest sum: {}",
+            "oracle estimate: {} estimates, by {} turns of a table set, in {} kinds of configuration, rate flag and mode \
+             flag; with lines cut off: {}, with escapes: {}, with a sum of whole bits: {}; largest sum: {}",
             self.estimates,
-            self.sets,
+            self.turns,
             self.configs.len(),
             self.cut,
             self.escapes,
@@ -126,7 +127,7 @@ struct Estimates<'a> {
 impl<'a> Estimates<'a> {
     fn by(set: &'a Set, seen: &'a mut Seen) -> Self {
         tables::lend(set);
-        seen.sets += 1;
+        seen.turns += 1;
         Estimates { set, list: Vec::new(), answer: Vec::new(), seen }
     }
 
