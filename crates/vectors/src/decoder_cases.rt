@@ -1,5 +1,6 @@
-// Cases of range_decoder: head and tail, eight bytes each. For the start the buffer follows; for steps low and range, four
-// bytes each, the rows, the list, of which only the rows' numbers count, and the buffer.
+// Cases of range_decoder: head and tail, eight bytes each, then low and range, four bytes each; for the start these are not
+// looked at, and the buffer follows. For steps the rows follow, the list, of which only the rows' numbers count, and the
+// buffer.
 ghost use Prim.Native.Nat.{_+_, _≤_};
 ghost use lib.ListN.{length};
 use crate::number::eight;

@@ -28,50 +28,22 @@ pub(crate) fn answer(kind: u8, case: &[u8], out: &mut [u8]) -> usize
     };
     let buf = &case[24..];
     match kind {
-        1 => byte(cursor, buf, out),
-        2 => three(cursor, buf, out),
-        3 => bits(cursor, buf, eight(case, 16), out),
-        _ => bit(cursor, buf, out),
-    }
-}
-
-fn byte(cursor: Cursor, buf: &[u8], out: &mut [u8]) -> usize
-    requires { ⌜ 4096 ≤ length (now out) ⌝ }
-    ensures { λ r. ⌜ r ≤ length (now (out .exit)) ⌝ }
-{
-    match cursor.take_byte(buf) {
-        ByteRead::Byte(value, next) => accepted(wide(value), next, out),
-        ByteRead::Refused(why) => refusal::of_buffer(why, out),
-    }
-}
-
-fn three(cursor: Cursor, buf: &[u8], out: &mut [u8]) -> usize
-    requires { ⌜ 4096 ≤ length (now out) ⌝ }
-    ensures { λ r. ⌜ r ≤ length (now (out .exit)) ⌝ }
-{
-    match cursor.take_three(buf) {
-        ThreeRead::Three(value, next) => accepted(word(value), next, out),
-        ThreeRead::Refused(why) => refusal::of_buffer(why, out),
-    }
-}
-
-fn bits(cursor: Cursor, buf: &[u8], width: usize, out: &mut [u8]) -> usize
-    requires { ⌜ 4096 ≤ length (now out) ⌝ }
-    ensures { λ r. ⌜ r ≤ length (now (out .exit)) ⌝ }
-{
-    match cursor.take_bits(buf, width) {
-        BitsRead::Bits(value, next) => accepted(word(value), next, out),
-        BitsRead::Refused(why) => refusal::of_buffer(why, out),
-    }
-}
-
-fn bit(cursor: Cursor, buf: &[u8], out: &mut [u8]) -> usize
-    requires { ⌜ 4096 ≤ length (now out) ⌝ }
-    ensures { λ r. ⌜ r ≤ length (now (out .exit)) ⌝ }
-{
-    match cursor.take_bit(buf) {
-        BitRead::Bit(value, next) => accepted(flag(value), next, out),
-        BitRead::Refused(why) => refusal::of_buffer(why, out),
+        1 => match cursor.take_byte(buf) {
+            ByteRead::Byte(value, next) => accepted(wide(value), next, out),
+            ByteRead::Refused(why) => refusal::of_buffer(why, out),
+        },
+        2 => match cursor.take_three(buf) {
+            ThreeRead::Three(value, next) => accepted(word(value), next, out),
+            ThreeRead::Refused(why) => refusal::of_buffer(why, out),
+        },
+        3 => match cursor.take_bits(buf, eight(case, 16)) {
+            BitsRead::Bits(value, next) => accepted(word(value), next, out),
+            BitsRead::Refused(why) => refusal::of_buffer(why, out),
+        },
+        _ => match cursor.take_bit(buf) {
+            BitRead::Bit(value, next) => accepted(flag(value), next, out),
+            BitRead::Refused(why) => refusal::of_buffer(why, out),
+        },
     }
 }
 

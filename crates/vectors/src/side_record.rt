@@ -10,55 +10,38 @@ use side_info::Sns;
 pub(crate) fn put(side: SideInfo, out: &mut [u8])
     requires { ⌜ 76 ≤ length (now out) ⌝ }
 {
-    put_opening(side, out);
-    put_flags(side, out);
-    put_sns(side.sns, out);
-    put_stage(side.sns, out);
-    put_filter(side, out);
+    let fields = listed(side);
+    let mut i = 0;
+    while i < 19 {
+        put_four(out, 4 * i, word(fields[i]));
+        i += 1;
+    }
 }
 
-fn put_opening(side: SideInfo, out: &mut [u8])
-    requires { ⌜ 76 ≤ length (now out) ⌝ }
-{
-    put_four(out, 0, word(side.bandwidth));
-    put_four(out, 4, word(side.lastnz));
-    put_four(out, 8, word(side.lsb));
-    put_four(out, 12, word(side.gain));
-}
-
-fn put_flags(side: SideInfo, out: &mut [u8])
-    requires { ⌜ 76 ≤ length (now out) ⌝ }
-{
-    put_four(out, 16, word(side.tns_first));
-    put_four(out, 20, word(side.tns_second));
-    put_four(out, 24, word(side.pitch));
-}
-
-fn put_sns(sns: Sns, out: &mut [u8])
-    requires { ⌜ 76 ≤ length (now out) ⌝ }
-{
-    put_four(out, 28, word(sns.lf));
-    put_four(out, 32, word(sns.hf));
-    put_four(out, 36, word(sns.msb));
-    put_four(out, 40, word(sns.submode_lsb));
-}
-
-fn put_stage(sns: Sns, out: &mut [u8])
-    requires { ⌜ 76 ≤ length (now out) ⌝ }
-{
-    put_four(out, 44, word(sns.gain));
-    put_four(out, 48, word(sns.ls_inda));
-    put_four(out, 52, word(sns.idx_a));
-    put_four(out, 56, word(sns.ls_indb));
-    put_four(out, 60, word(sns.idx_b));
-}
-
-fn put_filter(side: SideInfo, out: &mut [u8])
-    requires { ⌜ 76 ≤ length (now out) ⌝ }
-{
-    put_four(out, 64, word(side.active));
-    put_four(out, 68, word(side.index));
-    put_four(out, 72, word(side.noise));
+// The fields in the order of the record.
+fn listed(side: SideInfo) -> [u32; 19] {
+    let sns = side.sns;
+    [
+        side.bandwidth,
+        side.lastnz,
+        side.lsb,
+        side.gain,
+        side.tns_first,
+        side.tns_second,
+        side.pitch,
+        sns.lf,
+        sns.hf,
+        sns.msb,
+        sns.submode_lsb,
+        sns.gain,
+        sns.ls_inda,
+        sns.idx_a,
+        sns.ls_indb,
+        sns.idx_b,
+        side.active,
+        side.index,
+        side.noise,
+    ]
 }
 
 pub(crate) fn of(bytes: &[u8]) -> SideInfo
