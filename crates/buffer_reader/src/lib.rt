@@ -83,9 +83,9 @@ impl Cursor {
             return ThreeRead::Refused(BufferError::PastEnd(head));
         }
         ThreeRead::Three(
-            tail::wide(buf[head]) * 65536
-                + tail::wide(buf[head + 1]) * 256
-                + tail::wide(buf[head + 2]),
+            common::inner::wide(buf[head]) * 65536
+                + common::inner::wide(buf[head + 1]) * 256
+                + common::inner::wide(buf[head + 2]),
             Cursor {
                 head: head + 3,
                 tail: self.tail,

@@ -8,12 +8,6 @@ ghost use Rattle.buffer_reader.specs.Tail.{tailNumber};
 ghost use Rattle.buffer_reader.specs.Tail.{field as Tail·field};
 ghost use Rattle.buffer_reader.specs.Reads.{bytesWanted};
 
-pub(crate) fn wide(byte: u8) -> u32
-    ensures { λ r. ⌜ (r ≡ byte) × (r < 256) ⌝ }
-{
-    byte as u32
-}
-
 pub(crate) fn bytes_wanted(num_bits: usize, bit_index: usize) -> usize
     requires { ⌜ («num_bits» ≤ 25) × («bit_index» < 8) ⌝ }
     ensures { λ r. ⌜ r ≡ bytesWanted «num_bits» «bit_index» ⌝ }
@@ -54,19 +48,19 @@ fn number(buf: &[u8], byte_index: usize, num_bytes: usize) -> u32
     ensures { λ r. ⌜ r ≡ tailNumber (now (buf .entry)) «byte_index» «num_bytes» ⌝ }
 {
     let end = buf.len() - byte_index;
-    let one = wide(buf[end - 1]);
+    let one = common::inner::wide(buf[end - 1]);
     if num_bytes == 1 {
         return one;
     }
-    let two = one + wide(buf[end - 2]) * 256;
+    let two = one + common::inner::wide(buf[end - 2]) * 256;
     if num_bytes == 2 {
         return two;
     }
-    let three = two + wide(buf[end - 3]) * 65536;
+    let three = two + common::inner::wide(buf[end - 3]) * 65536;
     if num_bytes == 3 {
         return three;
     }
-    three + wide(buf[end - 4]) * 16777216
+    three + common::inner::wide(buf[end - 4]) * 16777216
 }
 
 // The bits that are not wanted are shifted out above, then below.

@@ -4,9 +4,9 @@ use Prim.Native.Nat.{ℕ, suc, _+_, _-_, _*_, _/_, _%_, _^_, _≤_, _<_}
 use mathlib.Core.Path.{_≡_, refl, sym, ap, _∙_}
 use native.Mathlib.Omega.{arith}
 use native.Mathlib.Decide.{decLt}
-use native.Mathlib.Nat.{mod-lt, pow-suc, one-mul}
+use native.Mathlib.Nat.{mod-lt, pow-suc}
 use lib.Arith.{digits-lt}
-use lib.Pow.{pow-pos, pow-add, shl-exact, shr-lt, shr-shr, split}
+use lib.Pow.{pow-pos, pow-add, shr-lt, shr-shr, split}
 use lib.Pow.{high as Pow·high}
 use Rattle.buffer_reader.proofs.Tails.{bit-below}
 use Rattle.buffer_writer.specs.Writes.{withBit, withTop}
@@ -59,6 +59,3 @@ pub with-top-same : (byte val n j : ℕ) → 8 - n ≤ j → withTop byte val n 
 with-top-same byte val n j h =
     let place : j ≡ 8 - n + (j - (8 - n)) = omega arith in
     rw (place, ← shr-shr (withTop byte val n) (8 - n) (j - (8 - n)), ← shr-shr val (8 - n) (j - (8 - n)), Pow·high (val / 2 ^ (8 - n)) (8 - n) (mod-lt byte (pow-pos (8 - n)))) refl
-
-pub one-shifted : (k : ℕ) → k < 8 → 1 * 2 ^ k % 4294967296 ≡ 2 ^ k
-one-shifted k h = shl-exact {a = 1} 1 k 32 (omega arith) (omega arith) ∙ one-mul (2 ^ k)

@@ -1,12 +1,12 @@
 -- The limits that a configuration keeps which passes, and document 01's numbers of lines as products.
 -- Assumes nothing.
-use Prim.Native.Nat.{ℕ, zero, suc, _+_, _*_, _≤_, _<_}
+use Prim.Native.Nat.{ℕ, zero, suc, _+_, _*_, _≤_}
 use mathlib.Core.Path.{_≡_, refl, sym, _∙_}
 use mathlib.Core.Bool.{Bool, true, false, not, _&&_}
 use native.Mathlib.Omega.{arith}
-use borrow.Author.Tests.{leb-true, le-leb, lt-leb, not-false}
+use borrow.Author.Tests.{leb-true, le-leb, not-false}
 use lib.Dec.{leb}
-use Rattle.common.proofs.Bools.{and-left, and-right, and-both, and-first-fails, and-second-fails}
+use Rattle.common.proofs.Bools.{and-left, and-right}
 use Rattle.common.specs.Configuration.{configurationPasses, ne, frameLength, linesOf}
 use Rattle.common.specs.Reply.{Reply, accepted, refused, outsideLimits}
 use Rattle.common.proofs.Replies.{no-refusal, accepted-same, given-split}
@@ -70,11 +70,7 @@ ne-range c e = within (c .duration) (c .«fs_ind») (duration-limit c e) (fs-lim
     within (suc zero) fs p q = rw (ne-short fs q) (omega arith, omega arith)
     within (suc (suc d)) fs p q = absurd (omega arith)
 
-pub too-short : (bytes : ℕ) → bytes < 20 → frameLength bytes ≡ false
-too-short bytes h = and-first-fails (leb bytes 400) (lt-leb 20 bytes h)
-
-pub too-long : (bytes : ℕ) → 400 < bytes → frameLength bytes ≡ false
-too-long bytes h = and-second-fails (leb 20 bytes) (lt-leb bytes 400 h)
-
-pub right-length : (bytes : ℕ) → 20 ≤ bytes → bytes ≤ 400 → frameLength bytes ≡ true
-right-length bytes p q = and-both (leb 20 bytes) (leb bytes 400) (le-leb 20 bytes p) (le-leb bytes 400 q)
+-- a frame of a length that passes has 20 to 400 bytes
+pub length-limits : (bytes : ℕ) → frameLength bytes ≡ true → (20 ≤ bytes) × (bytes ≤ 400)
+length-limits bytes e =
+    (leb-true 20 bytes (and-left (leb 20 bytes) (leb bytes 400) e), leb-true bytes 400 (and-right (leb 20 bytes) (leb bytes 400) e))

@@ -5,23 +5,17 @@ use mathlib.Core.Path.{_≡_, refl, sym, ap, _∙_}
 use mathlib.Core.Bool.{true, false}
 use mathlib.Core.List.{List}
 use native.Mathlib.Omega.{arith}
-use borrow.Author.Tests.{lt-ltb, le-ltb, le-leb, lt-leb, leb-true}
-use lib.Dec.{leb}
+use borrow.Author.Tests.{lt-ltb, le-ltb, le-leb, lt-leb}
 use lib.ListN.{length, getD}
 use Rattle.common.specs.Reply.{refused, outsideLimits, wrongLength, tablesFail, lowBeyondLimit}
 use Rattle.common.specs.Tables.{rowPasses, cumulative}
-use Rattle.common.proofs.Bools.{and-left, and-right}
 use Rattle.buffer_reader.specs.Steps.{next, found}
 use Rattle.buffer_reader.specs.declared.Cursor.{Cursor}
 use Rattle.range_decoder.specs.Decoder.{Below, unitOf, owner, narrowed, renormalised, Decoded, symbolStep, rangePasses, decodeSymbol}
 use Rattle.range_decoder.specs.declared.DecoderState.{DecoderState}
 use Rattle.range_decoder.proofs.Owners.{owner-owns}
-use Rattle.range_decoder.proofs.Renormal.{part-most}
-
--- a range within its limits
-pub range-limits : (range : ℕ) → rangePasses range ≡ true → (0x10000 ≤ range) × (range ≤ 0xFFFFFF)
-range-limits range e =
-    (leb-true 0x10000 range (and-left (leb 0x10000 range) (leb range 0xFFFFFF) e), leb-true range 0xFFFFFF (and-right (leb 0x10000 range) (leb range 0xFFFFFF) e))
+use Rattle.range_decoder.proofs.Renormal.{range-limits}
+use Rattle.range_decoder.proofs.Shares.{row-shares, shares-within}
 
 -- what the search finds: the owner, where its part begins, and how wide that is
 pub record Found (s : DecoderState) (row : List ℕ) (k base width : ℕ) : Type 0 where
@@ -43,7 +37,7 @@ module _ (s : DecoderState) (row : List ℕ) where
       let there : k < length row = rw (g .symbol) (o .there) in
       let starts : unitOf (s .range) * cumulative row k ≤ s .low = rw (g .symbol) (o .starts) in
       let ends : s .low < unitOf (s .range) * cumulative row k + unitOf (s .range) * getD row k 0 = rw (g .symbol) (o .ends) in
-      let most : unitOf (s .range) * getD row k 0 ≤ s .range = part-most row passed (s .range) k there in
+      let most = shares-within (unitOf (s .range)) (cumulative row k) (getD row k 0) (row-shares row passed k there) in
       let range : s .range ≤ 0xFFFFFF = range-limits (s .range) within .1 in
       (omega (arith, g .base-is), record { most = omega (arith, g .width-is); below = omega (arith, g .base-is, g .width-is) })
 

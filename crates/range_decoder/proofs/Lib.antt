@@ -1,3 +1,4 @@
+pub mod Shares
 pub mod Owners
 pub mod Searches
 pub mod Renormal

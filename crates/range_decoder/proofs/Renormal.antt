@@ -1,18 +1,16 @@
--- A unit of a range from 0x10000 on is at least 64, and 1,024 of them are at most the range. So a symbol's part is at least 64, and
--- two appended bytes bring it back to 0x10000 and more: there is never a third. Assumes nothing.
+-- A symbol's part of a range is at least 64, so two appended bytes bring it back to 0x10000 and more: there is never a third.
+-- Assumes nothing.
 use Prim.Native.Nat.{ℕ, _+_, _*_, _≤_, _<_}
 use mathlib.Core.Path.{_≡_, refl, sym, ap}
 use mathlib.Core.Bool.{Bool, true, false, cond}
 use mathlib.Core.List.{List}
 use native.Mathlib.Omega.{arith}
-use native.Mathlib.Nat.{mul-le-mul, mul-le-mul-left}
 use borrow.Author.Tests.{le-leb, leb-true, leb-false, ltb-true, ltb-false}
 use lib.Dec.{leb, ltb}
 use lib.ListN.{length, getD}
 use Rattle.common.specs.Reply.{Answer, accepted, lowBeyondLimit}
 use Rattle.common.specs.Tables.{rowPasses, cumulative}
 use Rattle.common.proofs.Bools.{and-left, and-right, and-both}
-use Rattle.common.proofs.Cumulatives.{frequency-positive, cumulative-next, cumulative-bound}
 use Rattle.common.proofs.Replies.{accepted-same, then-split, given-split}
 use Rattle.buffer_reader.specs.Reads.{takeByte}
 use Rattle.buffer_reader.specs.Steps.{next, found}
@@ -20,21 +18,12 @@ use Rattle.buffer_reader.specs.declared.Cursor.{Cursor}
 use Rattle.range_decoder.specs.Decoder.{unitOf, owner, narrowed, appendByte, renormalised, Decoded, symbolStep, rangePasses}
 use Rattle.range_decoder.specs.declared.DecoderState.{DecoderState}
 use Rattle.range_decoder.proofs.Owners.{owner-owns}
+use Rattle.range_decoder.proofs.Shares.{row-shares, shares-given}
 
-module _ (row : List ℕ) (passed : rowPasses row ≡ true) where
-  -- a symbol's part of a range is at least 64
-  pub part-least : (range k : ℕ) → 0x10000 ≤ range → k < length row → 64 ≤ unitOf range * getD row k 0
-  part-least range k least there =
-      let unit : 64 ≤ unitOf range = omega arith in
-      let p : 64 * 1 ≤ unitOf range * getD row k 0 = mul-le-mul unit (frequency-positive row passed k there) in
-      omega arith
-
-  -- and at most the range
-  pub part-most : (range k : ℕ) → k < length row → unitOf range * getD row k 0 ≤ range
-  part-most range k there =
-      let most : cumulative row (k + 1) ≤ 1024 = cumulative-bound row passed (k + 1) (omega arith) in
-      let freq : getD row k 0 ≤ 1024 = omega (arith, cumulative-next row k there) in
-      omega (arith, mul-le-mul-left (unitOf range) freq)
+-- a range within its limits
+pub range-limits : (range : ℕ) → rangePasses range ≡ true → (0x10000 ≤ range) × (range ≤ 0xFFFFFF)
+range-limits range e =
+    (leb-true 0x10000 range (and-left (leb 0x10000 range) (leb range 0xFFFFFF) e), leb-true range 0xFFFFFF (and-right (leb 0x10000 range) (leb range 0xFFFFFF) e))
 
 -- the range behind one turn, by the test of it
 abbrev turned : Bool → ℕ → ℕ
@@ -69,14 +58,13 @@ renormalised-range s f c t d least most e =
 pub step-range : (s : DecoderState) (row f : List ℕ) (c : Cursor) (r : Decoded) (d : Cursor) → rangePasses (s .range) ≡ true → rowPasses row ≡ true → symbolStep s row f c ≡ accepted (r, d) → rangePasses (r .state .range) ≡ true
 step-range s row f c r d within passed e =
     let n : ℕ = s .range in
-    let least : 0x10000 ≤ n = leb-true 0x10000 n (and-left (leb 0x10000 n) (leb n 0xFFFFFF) within) in
-    let most : n ≤ 0xFFFFFF = leb-true n 0xFFFFFF (and-right (leb 0x10000 n) (leb n 0xFFFFFF) within) in
+    let limits = range-limits n within in
     let g = given-split (leb (1024 * unitOf n) (s .low)) (lowBeyondLimit (s .low) (1024 * unitOf n)) _ e in
     let k : ℕ = owner (unitOf n) (s .low) row in
     let there : k < length row = owner-owns row passed (unitOf n) (s .low) (leb-false (1024 * unitOf n) (s .low) (g .0)) .there in
     let p = then-split (renormalised (narrowed (unitOf n) (s .low) row k) f c) _ (g .1) in
-    let whole : unitOf n * getD row k 0 ≤ n = part-most row passed n k there in
+    let own = shares-given n (cumulative row k) (getD row k 0) (limits .0) (row-shares row passed k there) in
     let b =
-    renormalised-range (narrowed (unitOf n) (s .low) row k) f c (p .0 .0) (p .0 .1) (part-least row passed n k least there) (omega arith) (p .1) in
+    renormalised-range (narrowed (unitOf n) (s .low) row k) f c (p .0 .0) (p .0 .1) (own .least) (omega (arith, own .short)) (p .1) in
     let same : r .state .range ≡ p .0 .0 .range = sym (ap (λ (x : Decoded × Cursor). x .0 .state .range) (accepted-same (p .2))) in
     rw same (and-both (leb 0x10000 (p .0 .0 .range)) (leb (p .0 .0 .range) 0xFFFFFF) (le-leb 0x10000 _ (b .0)) (le-leb _ 0xFFFFFF (b .1)))

@@ -6,12 +6,13 @@ use mathlib.Core.Bool.{true}
 use mathlib.Core.List.{List}
 use mathlib.Core.Logic.{⊎-elim}
 use native.Mathlib.Omega.{arith}
-use native.Mathlib.Nat.{mul-comm, mul-zero, mul-le-mul-left, eq-or-lt-of-le}
+use native.Mathlib.Nat.{mul-comm, mul-zero, eq-or-lt-of-le}
 use lib.ListN.{length, getD}
 use Rattle.common.specs.Tables.{rowPasses, cumulative}
-use Rattle.common.proofs.Cumulatives.{cumulative-start, cumulative-bound, cumulative-total}
+use Rattle.common.proofs.Cumulatives.{cumulative-start, cumulative-total}
 use Rattle.range_decoder.specs.Decoder.{owner}
 use Rattle.range_decoder.proofs.Owners.{part-end, owns-owner}
+use Rattle.range_decoder.proofs.Shares.{row-shares, shares-within}
 
 -- where the search stands: a symbol's part that does not begin above low
 pub record Candidate (row : List ℕ) (r low symbol base width : ℕ) : Type 0 where
@@ -21,11 +22,8 @@ pub record Candidate (row : List ℕ) (r low symbol base width : ℕ) : Type 0 w
   pub starts : base ≤ low
 
 module _ (row : List ℕ) (passed : rowPasses row ≡ true) (r low : ℕ) where
-  -- no part ends above 1024*r
   pub part-within : (k : ℕ) → k < length row → r * cumulative row k + r * getD row k 0 ≤ 1024 * r
-  part-within k h =
-      let most : r * cumulative row (k + 1) ≤ r * 1024 = mul-le-mul-left r (cumulative-bound row passed (k + 1) (omega arith)) in
-      omega (arith, part-end r row k h, mul-comm r 1024)
+  part-within k h = shares-within r (cumulative row k) (getD row k 0) (row-shares row passed k h)
 
   pub first-candidate : (width : ℕ) → 0 < length row → width ≡ r * getD row 0 0 → Candidate row r low 0 0 width
   first-candidate width some e =

@@ -34,19 +34,13 @@ fn append(state: DecoderState, buf: &[u8], at: Cursor) -> Appended
     match at.take_byte(buf) {
         buffer_reader::ByteRead::Byte(byte, next) => Appended::Filled(
             DecoderState {
-                low: state.low * 256 + wide(byte),
+                low: state.low * 256 + common::inner::wide(byte),
                 range: state.range * 256,
             },
             next,
         ),
         buffer_reader::ByteRead::Refused(e) => Appended::Refused(CodecError::Buffer(e)),
     }
-}
-
-fn wide(byte: u8) -> u32
-    ensures { λ r. ⌜ (r ≡ byte) × (r < 256) ⌝ }
-{
-    byte as u32
 }
 
 fn append_twice(state: DecoderState, buf: &[u8], at: Cursor) -> Appended

@@ -17,7 +17,8 @@ use Rattle.range_encoder.specs.Interval.{Sent, cumulativeOf, frequencyOf
 use Rattle.range_encoder.specs.Encoder.{startEncoder, shiftsOf, settles, shifted, shiftBytes, symbolAdded, withRange, turn, turnBytes, encoded, encodedBytes, Fits, Carries, Sound}
 use Rattle.range_encoder.specs.Runs.{Passes, AllPass, none, more, stateBehind, bytesBehind}
 use Rattle.range_encoder.specs.declared.EncoderState.{EncoderState}
-use Rattle.range_encoder.proofs.Symbols.{Shares, Given, symbol-shares, shares-given}
+use Rattle.range_decoder.proofs.Shares.{Shares, Given, shares-given}
+use Rattle.range_encoder.proofs.Symbols.{symbol-shares, symbol-given}
 use Rattle.range_encoder.proofs.Numbers.{from-append, from-none, from-one, carry-through}
 use Rattle.range_encoder.proofs.Intervals.{two-turns}
 use Rattle.range_encoder.proofs.States.{shifts-shifted, out-shifted, fits-added, fits-turn, fits-encoded}
@@ -57,8 +58,8 @@ end-settled s c short e =
     (or-split (ltb (s .low) 0xFF0000) (eqb (s .carry) 1) e)
 
 -- a byte more in the state bounds what may still be carried as before
-pub carries-shifted : (s : EncoderState) → Fits s → Carries s → 0 < s .range → s .range < 0x10000 → Carries (withRange (shifted s) (s .range * 256))
-carries-shifted s f c pos short =
+pub carries-shifted : (s : EncoderState) → Fits s → Carries s → s .range < 0x10000 → Carries (withRange (shifted s) (s .range * 256))
+carries-shifted s f c short =
     by-test (settles s)
     (λ e. rw e (omega (arith, end-settled s c short e)))
     (λ e. rw e (omega (arith, not-settled s f e)))
@@ -125,7 +126,7 @@ carries-added s cum freq f c g = omega (arith, added-exact s cum freq f c g)
 -- a symbol's own part of the interval, in digits
 holds-added : (w : List ℕ) (s : EncoderState) (i : Interval) (x : Sent) → Sound s → Passes x → Holds w s i → Holds w (symbolAdded s (cumulativeOf x) (frequencyOf x)) (part i x)
 holds-added w s i x d p h =
-    let g = shares-given (s .range) (cumulativeOf x) (frequencyOf x) (d .range-least) (symbol-shares x p) in
+    let g = symbol-given (s .range) x (d .range-least) p in
     record {
       range = rw (h .range) refl;
       shifts = h .shifts;
@@ -155,7 +156,7 @@ turning-turn s t =
       fits = fits-turn s (t .fits);
       carries =
           by-test (ltb (s .range) 0x10000)
-          (λ e. rw e (carries-shifted s (t .fits) (t .carries) (t .some) (ltb-true (s .range) 0x10000 e)))
+          (λ e. rw e (carries-shifted s (t .fits) (t .carries) (ltb-true (s .range) 0x10000 e)))
           (λ e. rw e (t .carries));
       some = by-test (ltb (s .range) 0x10000) (λ e. rw e (omega arith)) (λ e. rw e (t .some));
     }
@@ -179,10 +180,10 @@ holds-turn w s i t h =
     (λ e. rw (e, rw (h .range) at e, append-nil) h)
 
 -- the two turns behind a symbol leave a range of at least 0x10000
-least-turned : (s : EncoderState) → 64 ≤ s .range → s .range < 0x1000000 → 0x10000 ≤ turn (turn s) .range
-least-turned s least fits =
+least-turned : (s : EncoderState) → 64 ≤ s .range → 0x10000 ≤ turn (turn s) .range
+least-turned s least =
     let i : Interval = record { base = 0; range = s .range; shifts = 0 } in
-    rw (range-turn (turn s) (widened i) (range-turn s i refl)) (two-turns i least (omega arith))
+    rw (range-turn (turn s) (widened i) (range-turn s i refl)) (two-turns i least)
 
 -- the invariant holds behind a symbol
 pub sound-encoded : (s : EncoderState) (cum freq : ℕ) → Sound s → Shares cum freq → Sound (encoded s cum freq)
@@ -191,7 +192,7 @@ sound-encoded s cum freq d h =
     let t = turning-added s cum freq d h in
     record {
       fits = fits-encoded s cum freq (d .fits) (h .most);
-      range-least = least-turned (symbolAdded s cum freq) (g .least) (t .fits .range-fits);
+      range-least = least-turned (symbolAdded s cum freq) (g .least);
       carries = turning-turn (turn (symbolAdded s cum freq)) (turning-turn (symbolAdded s cum freq) t) .carries;
     }
 
@@ -223,6 +224,16 @@ holds-behind w s i (x ∷ xs) d (more p ps) h =
     let bytes = encodedBytes s (cumulativeOf x) (frequencyOf x) in
     rw (← append-assoc) (holds-behind (w ++ bytes) next (narrowedBy i x) xs sound ps (holds-encoded w s i x d p h))
 
--- the bytes out, those held and the carry are the digits of the exact interval's base
-pub carry-exact : (xs : List Sent) → AllPass xs → Holds (bytesBehind startEncoder xs) (stateBehind startEncoder xs) (behind whole xs)
-carry-exact xs ps = holds-behind [] startEncoder whole xs sound-start ps holds-start
+-- theorem 2, of a list: the bytes out, those held and the carry are the digits of the exact interval's base, and a carry that is
+-- known has a byte in the cache that takes it
+pub record Carried (xs : List Sent) : Type 0 where
+  pub holds : Holds (bytesBehind startEncoder xs) (stateBehind startEncoder xs) (behind whole xs)
+  pub kept : stateBehind startEncoder xs .carry ≡ 1 → (stateBehind startEncoder xs .held ≡ 1) × (stateBehind startEncoder xs .cache < 255)
+
+pub carry-exact : (xs : List Sent) → AllPass xs → Carried xs
+carry-exact xs ps =
+    let sound = sound-behind startEncoder xs sound-start ps in
+    record {
+      holds = holds-behind [] startEncoder whole xs sound-start ps holds-start;
+      kept = carry-kept (stateBehind startEncoder xs) (sound .fits) (sound .carries) (omega (arith, sound .range-least));
+    }

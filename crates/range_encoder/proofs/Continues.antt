@@ -2,14 +2,17 @@
 -- the number of any more bytes back to those bits leaves theirs. Assumes nothing.
 use Prim.Native.Nat.{ℕ, zero, suc, _+_, _-_, _*_, _/_, _^_, _≤_, _<_}
 use mathlib.Core.Path.{_≡_, refl, sym, ap, _∙_}
-use mathlib.Core.List.{List, [], _∷_}
+use mathlib.Core.List.{List, [], _∷_, _++_}
 use native.Mathlib.Omega.{arith}
-use native.Mathlib.Nat.{add-zero, zero-add, mul-assoc, mul-add-div-right}
-use lib.ListN.{length, getD}
+use native.Mathlib.Nat.{add-zero, zero-add, mul-assoc, mul-add-div-right, mod-lt}
+use lib.Arith.{digits-div}
+use lib.ListN.{length, getD, take, drop, length-append, List·getD-append}
+use lib.Seq.{sets, sets-eq, length-sets, length-take-le, getD-append-add, getD-set-same, getD-set-other}
 use lib.Pow.{pow-pos, pow-add, shr-shr}
 use Rattle.buffer_writer.proofs.Places.{Bytes}
 use Rattle.range_encoder.specs.Digits.{numberFrom, number, headNumber}
-use Rattle.range_encoder.specs.Finish.{ownNumber}
+use Rattle.buffer_writer.specs.Writes.{withTop}
+use Rattle.range_encoder.specs.Finish.{ownNumber, withOwn}
 use Rattle.range_encoder.proofs.Numbers.{head-none, head-more}
 
 -- from place h on the frame has the whole bytes, and then the top bits of the last
@@ -59,3 +62,26 @@ continues-number f h bytes last bits m all some most c room =
     let cut : headNumber f h m / 2 ^ (8 * d) ≡ headNumber f h (length bytes + 1) =
     ap (λ (k : ℕ). headNumber f h k / 2 ^ (8 * d)) at ∙ head-cut f h (length bytes + 1) d all in
     rw (width, ← shr-shr (headNumber f h m) (8 * d) (8 - bits), cut, head-more f h (length bytes), head-bytes f h bytes (c .same), top-bits (number bytes) (getD f (h + length bytes) 0) bits most, c .top) refl
+
+-- a byte that was laid is the list's
+laid-byte : (f : List ℕ) (at : ℕ) (bytes : List ℕ) (j : ℕ) → at + length bytes ≤ length f → j < length bytes → getD (sets f at bytes) (at + j) 0 ≡ getD bytes j 0
+laid-byte f at bytes j room l =
+    let front : length (take at f) ≡ at = length-take-le at f (omega arith) in
+    let place : at + j ≡ length (take at f) + j = omega arith in
+    ap (λ (l : List ℕ). getD l (at + j) 0) (sets-eq bytes f at room) ∙
+    ap (λ (k : ℕ). getD (take at f ++ bytes ++ drop (at + length bytes) f) k 0) place ∙
+    List·getD-append (take at f ++ bytes) (drop (at + length bytes) f) 0 (length (take at f) + j) (simp length-append (omega arith)) ∙
+    getD-append-add (take at f) bytes j 0
+
+-- a buffer that own bits were laid into begins with them, whatever it held
+pub laid-continues : (f : List ℕ) (at : ℕ) (bytes : List ℕ) (last bits : ℕ) → at + length bytes < length f → Continues (withOwn f at bytes last bits) at bytes last bits
+laid-continues f at bytes last bits room =
+    let end : ℕ = at + length bytes in
+    let size : length (sets f at bytes) ≡ length f = length-sets f at bytes in
+    let old : ℕ = getD (sets f at bytes) end 0 in
+    record {
+      same = λ j l. getD-set-other (sets f at bytes) end (at + j) (withTop old last bits) 0 (λ e. absurd (omega arith)) ∙ laid-byte f at bytes j (omega arith) l;
+      top =
+          ap (λ (b : ℕ). b / 2 ^ (8 - bits)) (getD-set-same (sets f at bytes) end (withTop old last bits) 0 (omega arith)) ∙
+          digits-div (last / 2 ^ (8 - bits)) (mod-lt old (pow-pos (8 - bits)));
+    }

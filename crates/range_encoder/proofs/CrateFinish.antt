@@ -2,7 +2,7 @@
 -- enough to show it, and every number here is computed from the definitions. Assumes nothing.
 use Prim.Native.Nat.{ℕ, zero, suc, _+_, _/_, _^_, _≤_, _<_}
 use mathlib.Core.Path.{_≡_, refl}
-use mathlib.Core.List.{List, [], _∷_, _++_}
+use mathlib.Core.List.{List, [], _∷_}
 use native.Mathlib.Omega.{arith}
 use lib.ListN.{getD}
 use Rattle.common.specs.Reply.{accepted}
@@ -13,9 +13,8 @@ use Rattle.buffer_writer.proofs.Places.{Bytes}
 use Rattle.range_decoder.specs.Decoder.{owner, startDecoder}
 use Rattle.range_encoder.specs.Digits.{numberFrom, headNumber}
 use Rattle.range_encoder.specs.Interval.{Sent, whole, behind}
-use Rattle.range_encoder.specs.Encoder.{startEncoder}
-use Rattle.range_encoder.specs.Finish.{finishBytes, finishLast, finishBits, ownNumber}
-use Rattle.range_encoder.specs.Runs.{Passes, stateBehind, bytesBehind, decodeAll}
+use Rattle.range_encoder.specs.Finish.{ownNumber}
+use Rattle.range_encoder.specs.Runs.{Passes, stateBehind, bytesBehind, ownBytes, ownLast, ownBits, decodeAll}
 use Rattle.range_encoder.proofs.Continues.{Continues}
 
 -- the second symbol of its row, sent alone
@@ -31,9 +30,9 @@ ones = 0x01 ∷ 0x7F ∷ 0xFF ∷ 0xFF ∷ []
 
 -- what is sent for the symbol in a reading: whole bytes, and the top bits of one more
 pub record Sends (reading : ℕ) (bytes : List ℕ) (last bits : ℕ) : Type 0 where
-  pub whole-bytes : bytesBehind startEncoder one ++ finishBytes reading (stateBehind startEncoder one) ≡ bytes
-  pub last-byte : finishLast reading (stateBehind startEncoder one) ≡ last
-  pub last-bits : finishBits reading (stateBehind startEncoder one) ≡ bits
+  pub whole-bytes : ownBytes reading one ≡ bytes
+  pub last-byte : ownLast reading one ≡ last
+  pub last-bits : ownBits reading one ≡ bits
 
 pub record FinishOutside : Type 0 where
   pub passes : Passes second

@@ -5,8 +5,8 @@ use mathlib.Core.Path.{_≡_, refl, _∙_}
 use mathlib.Core.Bool.{Bool, true, false, cond}
 use mathlib.Core.List.{List, [], _∷_}
 use native.Mathlib.Omega.{arith}
-use native.Mathlib.Nat.{le-trans, add-zero}
-use borrow.Author.Tests.{lt-leb, ltb-true}
+use native.Mathlib.Nat.{add-zero}
+use borrow.Author.Tests.{lt-leb}
 use lib.Dec.{ltb}
 use lib.ListN.{length, getD}
 use Rattle.common.proofs.Bools.{by-test}
@@ -20,31 +20,16 @@ use Rattle.range_decoder.specs.Decoder.{unitOf, appendByte, renormalised, Decod
 use Rattle.range_decoder.specs.declared.DecoderState.{DecoderState}
 use Rattle.range_decoder.proofs.Owners.{Owns, owns-owner, owns-limit}
 use Rattle.range_encoder.specs.Digits.{headNumber}
-use Rattle.range_encoder.specs.Interval.{Sent, cumulativeOf, frequencyOf, Interval, whole, part, widened, narrowedBy, behind}
+use Rattle.range_encoder.specs.Interval.{Sent, cumulativeOf, Interval, whole, part, widened, narrowedBy, behind}
 use Rattle.range_encoder.specs.Runs.{Passes, AllPass, more, decodeAll}
-use Rattle.range_encoder.proofs.Symbols.{symbol-shares, shares-given, Given}
+use Rattle.range_encoder.proofs.Symbols.{symbol-given}
 use Rattle.range_encoder.proofs.Numbers.{head-more}
-use Rattle.range_encoder.proofs.Intervals.{two-turns}
+use Rattle.range_encoder.proofs.Intervals.{Within, within-whole, within-narrowed}
 
 -- the number of the frame's 3 + S head bytes lies in the interval
 pub record Inside (f : List ℕ) (h : ℕ) (i : Interval) : Type 0 where
   pub low : i .base ≤ headNumber f h (3 + i .shifts)
   pub high : headNumber f h (3 + i .shifts) < i .base + i .range
-
--- what a symbol of a row that passes is given of an interval's range
-given-of : (i : Interval) (x : Sent) → 0x10000 ≤ i .range → Passes x → Given (i .range) (cumulativeOf x) (frequencyOf x)
-given-of i x least p = shares-given (i .range) (cumulativeOf x) (frequencyOf x) least (symbol-shares x p)
-
--- a turn leaves the range below 2^24
-most-widened : (i : Interval) → i .range ≤ 0xFFFFFF → widened i .range ≤ 0xFFFFFF
-most-widened i h = by-test (ltb (i .range) 0x10000) (λ e. rw e (omega (arith, ltb-true))) (λ e. rw e h)
-
--- between two symbols the range is from 0x10000 to 0xFFFFFF
-pub narrowed-bounds : (i : Interval) (x : Sent) → 0x10000 ≤ i .range → i .range ≤ 0xFFFFFF → Passes x → (0x10000 ≤ narrowedBy i x .range) × (narrowedBy i x .range ≤ 0xFFFFFF)
-narrowed-bounds i x least most p =
-    let g = given-of i x least p in
-    let short : part i x .range ≤ 0xFFFFFF = le-trans (g .short) most in
-    (two-turns (part i x) (g .least) short, most-widened (widened (part i x)) (most-widened (part i x) short))
 
 -- the shifts only grow
 pub widened-shifts : (i : Interval) → i .shifts ≤ widened i .shifts
@@ -77,18 +62,17 @@ module _ (f : List ℕ) (h : ℕ) (bytes : Bytes f) where
   inside-widened i = inside-wider (ltb (i .range) 0x10000) i
 
   -- nesting: what lies in a later interval lies, cut to its bytes, in every earlier one
-  pub inside-before : (i : Interval) (x : Sent) → 0x10000 ≤ i .range → Passes x → Inside f h (narrowedBy i x) → Inside f h i
-  inside-before i x least p o =
+  pub inside-before : (i : Interval) (x : Sent) → Within i → Passes x → Inside f h (narrowedBy i x) → Inside f h i
+  inside-before i x within p o =
       let q = inside-widened (part i x) (inside-widened (widened (part i x)) o) in
-      let g = given-of i x least p in
+      let g = symbol-given (i .range) x (within .range-least) p in
       record { low = omega (arith, q .low); high = omega (arith, q .high, g .most) }
 
-  pub inside-behind : (i : Interval) (xs : List Sent) → 0x10000 ≤ i .range → i .range ≤ 0xFFFFFF → AllPass xs → Inside f h (behind i xs) → Inside f h i
+  pub inside-behind : (i : Interval) (xs : List Sent) → Within i → AllPass xs → Inside f h (behind i xs) → Inside f h i
   unfolding behind
-  inside-behind i [] least most p o = o
-  inside-behind i (x ∷ xs) least most (more p ps) o =
-      let b = narrowed-bounds i x least most p in
-      inside-before i x least p (inside-behind (narrowedBy i x) xs (b .0) (b .1) ps o)
+  inside-behind i [] within p o = o
+  inside-behind i (x ∷ xs) within (more p ps) o =
+      inside-before i x within p (inside-behind (narrowedBy i x) xs (within-narrowed i x within p) ps o)
 
 -- the decoder's state and cursor that belong to an interval
 abbrev pub stateAt : List ℕ → ℕ → Interval → DecoderState
@@ -118,8 +102,8 @@ module _ (f : List ℕ) (c : Cursor) (bytes : Bytes f) (size : length f ≤ 6553
       rw first (append-widened (widened i) room o)
 
 -- one symbol: the decoder finds it, with the encoder's range, and low is the continuation less base
-pub decode-one : (f : List ℕ) (c : Cursor) (i : Interval) (x : Sent) → Bytes f → length f ≤ 65535 → 0x10000 ≤ i .range → i .range ≤ 0xFFFFFF → Passes x → c .head + 3 + narrowedBy i x .shifts ≤ length f → Inside f (c .head) (narrowedBy i x) → symbolStep (stateAt f (c .head) i) (x .row) f (cursorAt c i) ≡ accepted (record { symbol = x .symbol; state = stateAt f (c .head) (narrowedBy i x) }, cursorAt c (narrowedBy i x))
-decode-one f c i x bytes size least most p room o =
+pub decode-one : (f : List ℕ) (c : Cursor) (i : Interval) (x : Sent) → Bytes f → length f ≤ 65535 → Passes x → c .head + 3 + narrowedBy i x .shifts ≤ length f → Inside f (c .head) (narrowedBy i x) → symbolStep (stateAt f (c .head) i) (x .row) f (cursorAt c i) ≡ accepted (record { symbol = x .symbol; state = stateAt f (c .head) (narrowedBy i x) }, cursorAt c (narrowedBy i x))
+decode-one f c i x bytes size p room o =
     let q = inside-widened f (c .head) bytes (part i x) (inside-widened f (c .head) bytes (widened (part i x)) o) in
     let low : ℕ = headNumber f (c .head) (3 + i .shifts) - i .base in
     let unit : ℕ = unitOf (i .range) in
@@ -135,14 +119,14 @@ decodedAs f h i (x ∷ xs) =
     record { symbol = x .symbol; state = stateAt f h (narrowedBy i x) } ∷ decodedAs f h (narrowedBy i x) xs
 
 -- from any interval on
-pub decode-rest : (f : List ℕ) (c : Cursor) (i : Interval) (xs : List Sent) → Bytes f → length f ≤ 65535 → 0x10000 ≤ i .range → i .range ≤ 0xFFFFFF → AllPass xs → c .head + 3 + behind i xs .shifts ≤ length f → Inside f (c .head) (behind i xs) → decodeAll (stateAt f (c .head) i) xs f (cursorAt c i) ≡ accepted (decodedAs f (c .head) i xs, cursorAt c (behind i xs))
+pub decode-rest : (f : List ℕ) (c : Cursor) (i : Interval) (xs : List Sent) → Bytes f → length f ≤ 65535 → Within i → AllPass xs → c .head + 3 + behind i xs .shifts ≤ length f → Inside f (c .head) (behind i xs) → decodeAll (stateAt f (c .head) i) xs f (cursorAt c i) ≡ accepted (decodedAs f (c .head) i xs, cursorAt c (behind i xs))
 unfolding behind decodeAll decodedAs
-decode-rest f c i [] bytes size least most p room o = refl
-decode-rest f c i (x ∷ xs) bytes size least most (more p ps) room o =
-    let b = narrowed-bounds i x least most p in
-    let here = inside-behind f (c .head) bytes (narrowedBy i x) xs (b .0) (b .1) ps o in
-    let one = decode-one f c i x bytes size least most p (omega (arith, behind-shifts (narrowedBy i x) xs)) here in
-    let rest = decode-rest f c (narrowedBy i x) xs bytes size (b .0) (b .1) ps room o in
+decode-rest f c i [] bytes size within p room o = refl
+decode-rest f c i (x ∷ xs) bytes size within (more p ps) room o =
+    let later = within-narrowed i x within p in
+    let here = inside-behind f (c .head) bytes (narrowedBy i x) xs later ps o in
+    let one = decode-one f c i x bytes size p (omega (arith, behind-shifts (narrowedBy i x) xs)) here in
+    let rest = decode-rest f c (narrowedBy i x) xs bytes size later ps room o in
     rw (one, rest) refl
 
 three-number : (f : List ℕ) (h : ℕ) → threeAt f h ≡ headNumber f h 3
@@ -160,4 +144,4 @@ start-whole f c size room =
 pub decodes : (f : List ℕ) (c : Cursor) (xs : List Sent) → Bytes f → length f ≤ 65535 → AllPass xs → c .head + 3 + behind whole xs .shifts ≤ length f → Inside f (c .head) (behind whole xs) → next startDecoder (λ s. decodeAll s xs) f c ≡ accepted (decodedAs f (c .head) whole xs, cursorAt c (behind whole xs))
 decodes f c xs bytes size p room o =
     rw (start-whole f c size (omega arith))
-    (decode-rest f c whole xs bytes size (omega arith) (omega arith) p room o)
+    (decode-rest f c whole xs bytes size within-whole p room o)

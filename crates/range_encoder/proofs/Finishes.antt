@@ -10,15 +10,17 @@ use borrow.Author.Tests.{lt-ltb, ltb-true, ltb-false, eqb-true, eqb-false}
 use lib.Dec.{ltb, eqb}
 use lib.Pow.{pow-pos, pow-add}
 use lib.ListN.{length, length-append, length-replicate}
+use Rattle.common.specs.Last.{floorLog2}
 use Rattle.common.proofs.Bools.{by-test}
 use Rattle.range_encoder.specs.Digits.{number}
-use Rattle.range_encoder.specs.Interval.{Interval}
-use Rattle.range_encoder.specs.Encoder.{shiftsOf, settles, shifted, shiftBytes, reservedOf, Fits, Carries, Sound}
+use Rattle.range_encoder.specs.Interval.{Sent, Interval, whole, behind, reservedBits}
+use Rattle.range_encoder.specs.Encoder.{startEncoder, shiftsOf, settles, shifted, shiftBytes, reservedOf, Fits, Carries, Sound}
 use Rattle.range_encoder.specs.Finish.{Ending, ending, ended, pushed, pushedBytes, lastBits, heldBytes, lastByte, finishBytes, finishLast, finishBits, ownNumber}
+use Rattle.range_encoder.specs.Runs.{AllPass, stateBehind, bytesBehind, ownBytes, ownLast, ownBits, ownLength}
 use Rattle.range_encoder.specs.declared.EncoderState.{EncoderState}
 use Rattle.range_encoder.proofs.Numbers.{from-append, from-one}
 use Rattle.range_encoder.proofs.States.{fits-shifted, shifts-shifted, out-shifted}
-use Rattle.range_encoder.proofs.Carry.{heldDigits, Holds, not-settled, digits-waiting, carries-shifted, holds-shifted}
+use Rattle.range_encoder.proofs.Carry.{heldDigits, Holds, not-settled, digits-waiting, carries-shifted, holds-shifted, sound-start, sound-behind, carry-exact}
 use Rattle.range_encoder.proofs.Endings.{Exact, log-range, ending-ended, ending-exact, ending-fits, ending-carries}
 
 -- a state that is sent: so many bits of its low are its own, and its range is what they leave open
@@ -191,7 +193,7 @@ module _ (w : List ℕ) (t : EncoderState) (i : Interval) (fits : Fits t) (carri
   number-twice range c =
       let one = holds-shifted w t i fits carries some h in
       let same : shifted t .range ≡ t .range = one .range ∙ sym (h .range) in
-      let kept : Carries (shifted t) = omega (arith, same, carries-shifted t fits carries some (omega arith)) in
+      let kept : Carries (shifted t) = omega (arith, same, carries-shifted t fits carries (omega arith)) in
       let two = holds-shifted (w ++ shiftBytes t) (shifted t) (record { base = i .base * 256; range = i .range; shifts = i .shifts + 1 }) (fits-shifted t fits) kept (omega arith) one in
       rw (← append-assoc w (shiftBytes t) (shiftBytes (shifted t))) (omega (arith, two .digits, c .carry, c .low))
 
@@ -273,11 +275,41 @@ begins x n q base pos e whole =
 inside : (s : EncoderState) (e : Ending) (i : Interval) (above x : ℕ) → Exact s e → s .range ≡ i .range → (above + s .carry) * 0x1000000 + s .low ≡ i .base → (above + e .carry) * 0x1000000 + e .value ≤ x → x < (above + e .carry) * 0x1000000 + e .value + 2 ^ (24 - e .bits) → (i .base ≤ x) × (x < i .base + i .range)
 inside s e i above x exact range digits least most = omega arith
 
--- theorem 3, standard reading: every continuation of the bits sent lies in the interval
-pub finish-inside : (w : List ℕ) (s : EncoderState) (i : Interval) → Sound s → Holds w s i → (x : ℕ) → x / 2 ^ (24 - ending 1 s .bits) ≡ ownNumber (w ++ finishBytes 1 s) (finishLast 1 s) (finishBits 1 s) → (i .base ≤ x) × (x < i .base + i .range)
+-- standard reading: every continuation of the bits sent lies in the interval
+finish-inside : (w : List ℕ) (s : EncoderState) (i : Interval) → Sound s → Holds w s i → (x : ℕ) → x / 2 ^ (24 - ending 1 s .bits) ≡ ownNumber (w ++ finishBytes 1 s) (finishLast 1 s) (finishBits 1 s) → (i .base ≤ x) × (x < i .base + i .range)
 finish-inside w s i sound h x e =
     let q = 2 ^ (24 - ending 1 s .bits) in
     let own = ownNumber (w ++ finishBytes 1 s) (finishLast 1 s) (finishBits 1 s) in
     let base = (number (w ++ heldDigits s) + ending 1 s .carry) * 0x1000000 + ending 1 s .value in
     let within = begins x own q base (pow-pos (24 - ending 1 s .bits)) e (finish-number 1 w s i sound h) in
     inside s (ending 1 s) i (number (w ++ heldDigits s)) x (ending-exact s sound) (h .range) (h .digits) (within .0) (within .1)
+
+-- theorem 3, of a list, in the standard reading: what is sent is S bytes and 24 - floor(log2 range) bits or one more, at most E; and
+-- whatever continues it to 24 + 8S bits lies in the interval
+pub record Finishing (xs : List Sent) : Type 0 where
+  pub least : 8 * behind whole xs .shifts + 24 ≤ ownLength 1 xs + floorLog2 (behind whole xs .range)
+  pub most : ownLength 1 xs + floorLog2 (behind whole xs .range) ≤ 8 * behind whole xs .shifts + 25
+  pub reserved : ownLength 1 xs ≤ reservedBits (behind whole xs .shifts) (behind whole xs .range)
+  pub inside : (x : ℕ) → x / 2 ^ (24 + 8 * behind whole xs .shifts - ownLength 1 xs) ≡ ownNumber (ownBytes 1 xs) (ownLast 1 xs) (ownBits 1 xs) → (behind whole xs .base ≤ x) × (x < behind whole xs .base + behind whole xs .range)
+
+-- the same of any state that holds an interval
+finishing-by : (w : List ℕ) (s : EncoderState) (i : Interval) → Sound s → Holds w s i → (8 * i .shifts + ending 1 s .bits ≡ 8 * length (w ++ finishBytes 1 s) + finishBits 1 s) × (24 ≤ ending 1 s .bits + floorLog2 (i .range)) × (ending 1 s .bits + floorLog2 (i .range) ≤ 25)
+finishing-by w s i sound h =
+    let e = ending-ended 1 s sound in
+    (omega (arith, finish-length 1 w s sound (h .sent), h .shifts), rw (← h .range) (e .bits-least), rw (← h .range) (e .bits-most))
+
+pub finish-sends : (xs : List Sent) → AllPass xs → Finishing xs
+finish-sends xs all =
+    let s = stateBehind startEncoder xs in
+    let w = bytesBehind startEncoder xs in
+    let i = behind whole xs in
+    let sound = sound-behind startEncoder xs sound-start all in
+    let h = carry-exact xs all .holds in
+    let by = finishing-by w s i sound h in
+    let left : 24 + 8 * i .shifts - ownLength 1 xs ≡ 24 - ending 1 s .bits = omega (arith, by .0) in
+    record {
+      least = omega (arith, by .0, by .1);
+      most = omega (arith, by .0, by .2);
+      reserved = omega (arith, by .0, by .2);
+      inside = λ x e. finish-inside w s i sound h x (rw left at e);
+    }

@@ -8,9 +8,9 @@ use borrow.Author.Tests.{ltb-true, ltb-false}
 use lib.Dec.{ltb}
 use lib.Pow.{pow-add}
 use Rattle.common.proofs.Bools.{by-test}
-use Rattle.range_encoder.specs.Interval.{Sent, cumulativeOf, frequencyOf, Interval, whole, part, widened, narrowedBy, behind}
+use Rattle.range_encoder.specs.Interval.{Sent, Interval, whole, part, widened, narrowedBy, behind}
 use Rattle.range_encoder.specs.Runs.{Passes, AllPass, none, more}
-use Rattle.range_encoder.proofs.Symbols.{Given, symbol-shares, shares-given}
+use Rattle.range_encoder.proofs.Symbols.{symbol-given}
 
 -- an interval between two symbols: the numbers of its string are those below 2^(24 + 8 S)
 pub record Within (i : Interval) : Type 0 where
@@ -42,8 +42,8 @@ least-widened i n few h =
     by-test (ltb (i .range) 0x10000) (λ e. rw e (omega arith)) (λ e. rw e (omega (arith, ltb-false)))
 
 -- two turns suffice: a range of at least 64 is then at least 0x10000
-pub two-turns : (i : Interval) → 64 ≤ i .range → i .range ≤ 0xFFFFFF → 0x10000 ≤ widened (widened i) .range
-two-turns i least most =
+pub two-turns : (i : Interval) → 64 ≤ i .range → 0x10000 ≤ widened (widened i) .range
+two-turns i least =
     let once : 64 * 256 ≤ widened i .range = least-widened i 64 (omega arith) least in
     least-widened (widened i) 256 (omega arith) (omega arith)
 
@@ -53,11 +53,11 @@ within-whole = omega arith
 
 pub within-narrowed : (i : Interval) (x : Sent) → Within i → Passes x → Within (narrowedBy i x)
 within-narrowed i x h p =
-    let g : Given (i .range) (cumulativeOf x) (frequencyOf x) = shares-given (i .range) (cumulativeOf x) (frequencyOf x) (h .range-least) (symbol-shares x p) in
+    let g = symbol-given (i .range) x (h .range-least) p in
     let own : Short (part i x) = omega arith in
     let last : Short (narrowedBy i x) = short-widened (widened (part i x)) (short-widened (part i x) own) in
     record {
-      range-least = two-turns (part i x) (g .least) (own .range-most);
+      range-least = two-turns (part i x) (g .least);
       range-most = last .range-most;
       inside = last .inside;
     }

@@ -1,5 +1,5 @@
--- A list of symbols through the encoder, and through the decoder.
-use Prim.Native.Nat.{ℕ, _<_}
+-- A list of symbols through the encoder, its finish, and the decoder.
+use Prim.Native.Nat.{ℕ, _+_, _*_, _<_}
 use mathlib.Core.List.{List, [], _∷_, _++_}
 use lib.ListN.{length}
 use mathlib.Core.Path.{_≡_}
@@ -9,7 +9,8 @@ use Rattle.buffer_reader.specs.Steps.{Reading, found, next}
 use Rattle.range_decoder.specs.Decoder.{Decoded, symbolStep}
 use Rattle.range_decoder.specs.declared.DecoderState.{DecoderState}
 use Rattle.range_encoder.specs.Interval.{Sent, cumulativeOf, frequencyOf}
-use Rattle.range_encoder.specs.Encoder.{encoded, encodedBytes}
+use Rattle.range_encoder.specs.Encoder.{startEncoder, encoded, encodedBytes}
+use Rattle.range_encoder.specs.Finish.{finishBytes, finishLast, finishBits}
 use Rattle.range_encoder.specs.declared.EncoderState.{EncoderState}
 
 -- each symbol is one of a row that passes
@@ -30,6 +31,20 @@ unfoldable pub bytesBehind : EncoderState → List Sent → List ℕ
 bytesBehind s [] = []
 bytesBehind s (x ∷ xs) =
     encodedBytes s (cumulativeOf x) (frequencyOf x) ++ bytesBehind (encoded s (cumulativeOf x) (frequencyOf x)) xs
+
+-- "The S bytes and these bits together are the head's own bits": whole bytes, and the top bits of one more
+abbrev pub ownBytes : ℕ → List Sent → List ℕ
+ownBytes reading xs = bytesBehind startEncoder xs ++ finishBytes reading (stateBehind startEncoder xs)
+
+abbrev pub ownLast : ℕ → List Sent → ℕ
+ownLast reading xs = finishLast reading (stateBehind startEncoder xs)
+
+abbrev pub ownBits : ℕ → List Sent → ℕ
+ownBits reading xs = finishBits reading (stateBehind startEncoder xs)
+
+-- how many they are
+abbrev pub ownLength : ℕ → List Sent → ℕ
+ownLength reading xs = 8 * length (ownBytes reading xs) + ownBits reading xs
 
 -- the decoder on as many symbols, by their rows alone: each symbol with the state behind it
 unfoldable pub decodeAll : DecoderState → List Sent → Reading (List Decoded)

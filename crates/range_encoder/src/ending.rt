@@ -1,22 +1,14 @@
 // What the finish decides, before it sends anything.
 ghost use mathlib.Core.Path.{_≡_};
-ghost use Prim.Native.Nat.{_+_, _-_, _%_, _^_, _≤_, _<_};
+ghost use Prim.Native.Nat.{_+_, _-_, _%_, _≤_, _<_};
 ghost use Rattle.range_encoder.specs.Encoder.{Fits};
 ghost use Rattle.range_encoder.specs.Finish.{roundedUp, highOf, endingAt, endingBy, ending as Finish·ending, endingOf};
 use crate::EncoderState;
 
 pub(crate) struct Closing {
-    pub bits: u32,
+    pub bits: usize,
     pub value: u32,
     pub carry: u32,
-}
-
-// A power of two, by a shift.
-pub(crate) fn power(n: u32) -> u32
-    requires { ⌜ n < 24 ⌝ }
-    ensures { λ r. ⌜ (r ≡ 2 ^ n) × (0 < r) × (r < 0x1000000) ⌝ }
-{
-    1 << n
 }
 
 fn rounded_up(low: u32, step: u32) -> u32
@@ -38,7 +30,7 @@ fn high(reading: usize, st: EncoderState) -> u32
     }
 }
 
-fn ending_at(st: EncoderState, bits: u32, step: u32) -> Closing
+fn ending_at(st: EncoderState, bits: usize, step: u32) -> Closing
     requires { ⌜ (Fits st) × (0 < step) × (step < 0x1000000) ⌝ }
     ensures { λ r. ⌜ endingOf r ≡ endingAt st bits step ⌝ }
 {
@@ -57,11 +49,11 @@ fn ending_at(st: EncoderState, bits: u32, step: u32) -> Closing
     }
 }
 
-fn ending_by(reading: usize, st: EncoderState, n: u32) -> Closing
+fn ending_by(reading: usize, st: EncoderState, n: usize) -> Closing
     requires { ⌜ (Fits st) × (16 ≤ n) × (n < 24) ⌝ }
     ensures { λ r. ⌜ endingOf r ≡ endingBy reading st n ⌝ }
 {
-    let step = power(n);
+    let step = common::inner::power(n);
     let value = rounded_up(st.low, step);
     let over = (st.low + (step - 1)) / 0x1000000;
     if over != (st.low + st.range) / 0x1000000 {
@@ -75,7 +67,7 @@ fn ending_by(reading: usize, st: EncoderState, n: u32) -> Closing
     if value + (step - 1) < high(reading, st) {
         return ending_at(st, 24 - n, step);
     }
-    ending_at(st, 25 - n, power(n - 1))
+    ending_at(st, 25 - n, common::inner::power(n - 1))
 }
 
 pub(crate) fn ending(reading: usize, st: EncoderState) -> Closing

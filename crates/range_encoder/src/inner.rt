@@ -141,7 +141,7 @@ fn bits_for(bytes: usize, range: u32) -> usize
     requires { ⌜ (bytes ≤ 65536) × (0x10000 ≤ range) × (range < 0x1000000) ⌝ }
     ensures { λ r. ⌜ r ≡ reservedBits bytes range ⌝ }
 {
-    8 * bytes + 25 - common::inner::floor_log2(range) as usize
+    8 * bytes + 25 - common::inner::floor_log2(range)
 }
 
 // E, in bits.
@@ -166,7 +166,7 @@ fn ended(st: EncoderState, e: crate::ending::Closing) -> EncoderState
 {
     EncoderState {
         low: e.value,
-        range: crate::ending::power(24 - e.bits),
+        range: common::inner::power(24 - e.bits),
         held: st.held,
         cache: st.cache,
         carry: e.carry,
@@ -219,7 +219,7 @@ pub fn ac_enc_finish(buf: &mut [u8], st: EncoderState, reading: usize) -> Finish
     ensures lent { λ _. ⌜ now (buf .exit) ≡ withOwn (now (buf .entry)) (st .out) (finishBytes reading st) (finishLast reading st) (finishBits reading st) ⌝ }
 {
     let e = crate::ending::ending(reading, st);
-    let bits = e.bits as usize;
+    let bits = e.bits;
     let last = push(buf, ended(st, e), bits);
     send_last(buf, last, last_bits(bits))
 }

@@ -22,7 +22,8 @@ use Rattle.side_info.proofs.Answers.{write-on, fields-put}
 use Rattle.side_info.proofs.Joints.{sns-limits}
 use Rattle.side_info.proofs.Layouts.{room-end, room-there}
 use Rattle.side_info.proofs.Lengths.{length-range}
-use Rattle.side_info.proofs.RoundTrip.{side-limits, read-back}
+use Rattle.side_info.proofs.RoundTrip.{read-back}
+use Rattle.side_info.proofs.SideLimits.{side-limits}
 
 module _ (k : Configuration) (s : SideInfo) (f : List ℕ) (c : Cursor) where
   abbrev fs : ℕ

@@ -5,7 +5,7 @@ use mathlib.Core.Path.{_≡_, refl}
 use mathlib.Core.Bool.{Bool, true, false, cond, not}
 use mathlib.Core.List.{List}
 use native.Mathlib.Omega.{arith}
-use borrow.Author.Tests.{ltb-true, ltb-false, leb-false, le-leb, eq-eqb}
+use borrow.Author.Tests.{ltb-true, ltb-false, leb-false, le-leb}
 use lib.Dec.{leb, ltb, eqb}
 use lib.ListN.{length}
 use Rattle.common.specs.Reply.{Reply, Answer, accepted, refused, side, given, andThen, outsideLimits, wrongLength, bandwidthTooLarge, lastnzTooLarge, jointTooLarge25, jointTooLarge24}
@@ -25,6 +25,7 @@ use Rattle.side_info.specs.declared.reader.Flags.{Flags}
 use Rattle.side_info.proofs.Values.{Below}
 use Rattle.side_info.specs.Reader.{sideInfoOf}
 use Rattle.side_info.proofs.Joints.{SnsLimits}
+use Rattle.side_info.proofs.SideLimits.{limits-pass}
 
 -- a value is at most a limit
 abbrev Within : ℕ → ℕ × Cursor → Type 0
@@ -126,44 +127,6 @@ record FlagsFit (o : Opening) (g : Flags) : Type 0 where
   two : g .second ≤ mostIf (leb 3 (o .bandwidth)) 1
   tone : g .pitch < 2
 
--- each field is within the most that the record's other fields allow
-record SideFits (fs ne : ℕ) (s : SideInfo) : Type 0 where
-  narrow : s .bandwidth ≤ fs
-  last : LastnzFits ne (s .lastnz)
-  bit : s .lsb ≤ 1
-  byte : s .gain ≤ 255
-  one : s .«tns_first» ≤ 1
-  two : s .«tns_second» ≤ mostIf (leb 3 (s .bandwidth)) 1
-  tone : s .pitch ≤ 1
-  on : s .active ≤ mostIf (eqb (s .pitch) 1) 1
-  lag : s .index ≤ mostIf (eqb (s .pitch) 1) 511
-  floor : s .noise ≤ 7
-
--- thirteen tests at once
-side-all : (fs ne : ℕ) (s : SideInfo) → SideFits fs ne s → snsPasses (s .sns) ≡ true → sidePasses fs ne s ≡ true
-side-all fs ne s h p =
-    and-both _ _
-    (and-both _ _
-    (and-both _ _
-    (and-both _ _
-    (and-both _ _
-    (and-both _ _
-    (and-both _ _
-    (and-both _ _
-    (and-both _ _
-    (and-both _ _
-    (and-both _ _ (and-both _ _ (le-leb _ _ (h .narrow)) (eq-eqb _ _ (h .last .even))) (le-leb _ _ (h .last .least)))
-    (le-leb _ _ (h .last .most)))
-    (le-leb _ _ (h .bit)))
-    (le-leb _ _ (h .byte)))
-    (le-leb _ _ (h .one)))
-    (le-leb _ _ (h .two)))
-    (le-leb _ _ (h .tone)))
-    p)
-    (le-leb _ _ (h .on)))
-    (le-leb _ _ (h .lag)))
-    (le-leb _ _ (h .floor))
-
 -- what is shown of every record that is returned
 abbrev Passes : ℕ → ℕ → SideInfo × Cursor → Type 0
 Passes fs ne r = sidePasses fs ne (r .0) ≡ true
@@ -180,7 +143,21 @@ module _ (fs ne : ℕ) (f : List ℕ) (o : Opening) (g : Flags) (p : OpeningFits
       (λ x s. holds-then (Passes fs ne) (Within (mostIf (eqb (g .pitch) 1) 511)) (ifPresent (eqb (g .pitch) 1) (sideField 9) f (x .1)) _
       (present-holds (eqb (g .pitch) 1) 511 (sideField 9) f (x .1) (field-holds side 9 f (x .1)))
       (λ y t. holds-then (Passes fs ne) (Below 8) (sideField 3 f (y .1)) _ (field-holds side 3 f (y .1))
-      (λ z u. side-all fs ne (sideInfoOf o g sns (x .0) (y .0) (z .0)) (omega arith) r)))
+      (λ z u. limits-pass fs ne (sideInfoOf o g sns (x .0) (y .0) (z .0)) (record {
+        band = p .narrow;
+        even = p .last .even;
+        two = p .last .least;
+        last = p .last .most;
+        bit = omega arith;
+        level = omega arith;
+        first = omega arith;
+        second = q .two;
+        filter = omega arith;
+        stages = r;
+        on-off = s;
+        place = t;
+        noises = omega arith;
+      }))))
 
   -- behind msb, with the limit of J that it sets
   shape-by : (lf hf msb limit : ℕ) (c : Cursor) → ((d : Cursor) → Holds (Below limit) (readJoint msb f d)) → SnsBelow lf hf msb limit → Holds (Passes fs ne) (fromShape o g lf hf msb f c)

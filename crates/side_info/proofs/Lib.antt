@@ -7,6 +7,7 @@ pub mod Joints
 pub mod Layouts
 pub mod Lengths
 pub mod Depends
+pub mod SideLimits
 pub mod Image
 pub mod RoundTrip
 pub mod Exact

@@ -2,12 +2,12 @@
 -- writer follow one layout. Assumes nothing.
 use Prim.Native.Nat.{ℕ, zero, suc, _+_, _-_, _*_, _/_, _%_, _^_, _≤_, _<_}
 use mathlib.Core.Path.{_≡_, refl, sym, ap, ap₂, _∙_}
-use mathlib.Core.Bool.{Bool, true, false, cond, _&&_}
+use mathlib.Core.Bool.{Bool, true, false, cond}
 use mathlib.Core.List.{List, [], _∷_}
 use native.Mathlib.Omega.{arith}
 use native.Mathlib.Decide.{decLe}
 use native.Mathlib.Nat.{add-zero, zero-add, mod-eq-of-lt}
-use borrow.Author.Tests.{le-ltb, lt-ltb, lt-leb, leb-true, eqb-true}
+use borrow.Author.Tests.{le-ltb, lt-ltb, lt-leb, leb-true}
 use lib.Dec.{leb, ltb, eqb}
 use lib.ListN.{length, getD}
 use Rattle.common.specs.Reply.{Answer, accepted, side, within, andThen}
@@ -26,7 +26,7 @@ use Rattle.buffer_reader.proofs.Answers.{bits-taken, bit-taken}
 use Rattle.side_info.specs.Joint.{snsOf, partOf, jointOf}
 use Rattle.side_info.specs.Reader.{sideField, sideFlag, bandwidthBits, lastnzBits, readBandwidth, readLastnz, readJoint}
 use Rattle.side_info.specs.Reader.{fromFilter, fromShape, fromSns, fromFlags, fromLevel, readAll, readSide, sideInfoOf}
-use Rattle.side_info.specs.Record.{mostIf, sidePasses, snsPasses}
+use Rattle.side_info.specs.Record.{mostIf, sidePasses}
 use Rattle.side_info.specs.Layout.{sideValues, sideWidths, sideLength, putFields}
 use Rattle.side_info.specs.declared.Sns.{Sns}
 use Rattle.side_info.specs.declared.SideInfo.{SideInfo}
@@ -37,6 +37,7 @@ use Rattle.side_info.proofs.Answers.{read-on}
 use Rattle.side_info.proofs.Layouts.{fieldsAt, cutAll, put-fields-length, put-fields-same}
 use Rattle.side_info.proofs.Joints.{sns-limits, joint-back, joint-low-25, joint-low-24, part-fits, joint-fits}
 use Rattle.side_info.proofs.Lengths.{bandwidth-most, length-range}
+use Rattle.side_info.proofs.SideLimits.{SideLimits, side-limits}
 
 abbrev at : ℕ → ℕ → Cursor
 at h t = record { head = h; tail = t }
@@ -50,64 +51,6 @@ bit-number : (b : ℕ) → b < 2 → cond (eqb b 1) 1 0 ≡ b
 bit-number zero l = refl
 bit-number (suc zero) l = refl
 bit-number (suc (suc b)) l = absurd (omega arith)
-
--- the limits of a record that passes
-pub record SideLimits (fs lines : ℕ) (s : SideInfo) : Type 0 where
-  pub band : s .bandwidth ≤ fs
-  pub even : s .lastnz % 2 ≡ 0
-  pub two : 2 ≤ s .lastnz
-  pub last : s .lastnz ≤ lines
-  pub bit : s .lsb ≤ 1
-  pub level : s .gain ≤ 255
-  pub first : s .«tns_first» ≤ 1
-  pub second : s .«tns_second» ≤ mostIf (leb 3 (s .bandwidth)) 1
-  pub filter : s .pitch ≤ 1
-  pub stages : snsPasses (s .sns) ≡ true
-  pub on-off : s .active ≤ mostIf (eqb (s .pitch) 1) 1
-  pub place : s .index ≤ mostIf (eqb (s .pitch) 1) 511
-  pub noises : s .noise ≤ 7
-
-pub side-limits : (fs lines : ℕ) (s : SideInfo) → sidePasses fs lines s ≡ true → SideLimits fs lines s
-side-limits fs lines s e =
-    let a = leb (s .bandwidth) fs in
-    let b = eqb (s .lastnz % 2) 0 in
-    let c = leb 2 (s .lastnz) in
-    let d = leb (s .lastnz) lines in
-    let g = leb (s .lsb) 1 in
-    let h = leb (s .gain) 255 in
-    let i = leb (s .«tns_first») 1 in
-    let j = leb (s .«tns_second») (mostIf (leb 3 (s .bandwidth)) 1) in
-    let k = leb (s .pitch) 1 in
-    let l = snsPasses (s .sns) in
-    let m = leb (s .active) (mostIf (eqb (s .pitch) 1) 1) in
-    let n = leb (s .index) (mostIf (eqb (s .pitch) 1) 511) in
-    let o = leb (s .noise) 7 in
-    let e12 = and-left (a && b && c && d && g && h && i && j && k && l && m && n) o e in
-    let e11 = and-left (a && b && c && d && g && h && i && j && k && l && m) n e12 in
-    let e10 = and-left (a && b && c && d && g && h && i && j && k && l) m e11 in
-    let e9 = and-left (a && b && c && d && g && h && i && j && k) l e10 in
-    let e8 = and-left (a && b && c && d && g && h && i && j) k e9 in
-    let e7 = and-left (a && b && c && d && g && h && i) j e8 in
-    let e6 = and-left (a && b && c && d && g && h) i e7 in
-    let e5 = and-left (a && b && c && d && g) h e6 in
-    let e4 = and-left (a && b && c && d) g e5 in
-    let e3 = and-left (a && b && c) d e4 in
-    let e2 = and-left (a && b) c e3 in
-    record {
-      band = leb-true (s .bandwidth) fs (and-left a b e2);
-      even = eqb-true (s .lastnz % 2) 0 (and-right a b e2);
-      two = leb-true 2 (s .lastnz) (and-right (a && b) c e3);
-      last = leb-true (s .lastnz) lines (and-right (a && b && c) d e4);
-      bit = leb-true (s .lsb) 1 (and-right (a && b && c && d) g e5);
-      level = leb-true (s .gain) 255 (and-right (a && b && c && d && g) h e6);
-      first = leb-true (s .«tns_first») 1 (and-right (a && b && c && d && g && h) i e7);
-      second = leb-true (s .«tns_second») (mostIf (leb 3 (s .bandwidth)) 1) (and-right (a && b && c && d && g && h && i) j e8);
-      filter = leb-true (s .pitch) 1 (and-right (a && b && c && d && g && h && i && j) k e9);
-      stages = and-right (a && b && c && d && g && h && i && j && k) l e10;
-      on-off = leb-true (s .active) (mostIf (eqb (s .pitch) 1) 1) (and-right (a && b && c && d && g && h && i && j && k && l) m e11);
-      place = leb-true (s .index) (mostIf (eqb (s .pitch) 1) 511) (and-right (a && b && c && d && g && h && i && j && k && l && m) n e12);
-      noises = leb-true (s .noise) 7 (and-right (a && b && c && d && g && h && i && j && k && l && m && n) o e);
-    }
 
 -- the widths of the fields that may be absent
 abbrev secondWidth : ℕ → ℕ

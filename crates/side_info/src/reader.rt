@@ -40,10 +40,7 @@ pub fn read(buf: &[u8], at: Cursor, configuration: Configuration) -> SideRead
         Lines::OutsideLimits => SideRead::Refused(SideInfoError::OutsideLimits),
         Lines::Encoded(ne) => {
             let len = buf.len();
-            if len < 20 {
-                return SideRead::Refused(SideInfoError::WrongLength(len));
-            }
-            if 400 < len {
+            if !common::inner::frame_length(len) {
                 return SideRead::Refused(SideInfoError::WrongLength(len));
             }
             read_all(buf, at, configuration.fs_ind, ne)

@@ -56,10 +56,7 @@ pub fn write(
         Lines::OutsideLimits => SideWritten::Refused(SideWriteError::OutsideLimits),
         Lines::Encoded(ne) => {
             let len = buf.len();
-            if len < 20 {
-                return SideWritten::Refused(SideWriteError::WrongLength(len));
-            }
-            if 400 < len {
+            if !common::inner::frame_length(len) {
                 return SideWritten::Refused(SideWriteError::WrongLength(len));
             }
             if !limits::side_passes(side, configuration.fs_ind, ne) {

@@ -71,10 +71,7 @@ pub fn compute_bit_consumption(
     if 65535 < target {
         return Estimated::Refused(EstimateError::OutsideLimits);
     }
-    if bytes < 20 {
-        return Estimated::Refused(EstimateError::WrongLength(bytes));
-    }
-    if 400 < bytes {
+    if !common::inner::frame_length(bytes) {
         return Estimated::Refused(EstimateError::WrongLength(bytes));
     }
     if !common::tables::tables_pass(lookup, frequencies, bits, orders, coefficients) {

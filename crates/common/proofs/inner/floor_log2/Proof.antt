@@ -8,8 +8,11 @@ use Rattle.common.proofs.inner.floor_log2.Tie as tie
 sub-result : tie.Need-sub-result
 sub-result c = zeros-most (c .args .n) (omega arith) (omega arith)
 
+cast-result : tie.Need-cast-result
+cast-result c = omega arith
+
 returns : tie.Need-returns
 returns c = log-zeros (c .args .n) (omega arith) (omega arith)
 
 pub floor-log2-spec : {M : Type 1} → statement M
-floor-log2-spec = tie.close (tie.spec sub-result returns)
+floor-log2-spec = tie.close (tie.spec sub-result cast-result returns)

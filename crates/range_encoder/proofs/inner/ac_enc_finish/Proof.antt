@@ -11,19 +11,16 @@ use Rattle.range_encoder.proofs.inner.ac_enc_finish.Tie as tie
 ending-requires : tie.Need-ending-requires
 ending-requires c κs = search needs
 
-cast-bits : tie.Need-cast-bits
-cast-bits c = search needs
-
 ended-requires : tie.Need-ended-requires
 ended-requires c κs =
-    let s = c .before .before .before .before in
-    let e = c .before .before .ending in
+    let s = c .before .before .before in
+    let e = c .before .ending in
     chosen-bits (s .args .reading) (s .args .st) (endingOf (e .result)) (e .ensures) (s .pre .0)
 
 push-requires : tie.Need-push-requires
 push-requires c κs =
-    let s = c .before .before .before .before .before in
-    let e = c .before .before .before .ending in
+    let s = c .before .before .before .before in
+    let e = c .before .before .ending in
     let ready = push-ready (s .args .reading) (s .args .st) (endingOf (e .result)) (e .ensures) (c .ended .result) (c .ended .ensures) (length (s .args .buf .now)) (s .pre .0) (s .pre .1) in
     (ready .0, ready .1, s .pre .2)
 
@@ -32,8 +29,8 @@ last-bits-requires c κs = search needs
 
 send-last-requires : tie.Need-send-last-requires
 send-last-requires c κs =
-    let s = c .before .before .before .before .before .before .before .before .before .before in
-    let e = c .before .before .before .before .before .before .before .before .ending in
+    let s = c .before .before .before .before .before .before .before .before .before in
+    let e = c .before .before .before .before .before .before .before .ending in
     let t = c .before .before .before .before .before .ended in
     let p = c .before .before .before .before .push in
     let ready = last-ready (s .args .reading) (s .args .st) (endingOf (e .result)) (e .ensures) (t .result) (t .ensures) (p .result) (c .last-bits .result) (p .ensures .0) (c .last-bits .ensures) (length (p .last .0)) (s .pre .0) (omega arith) in
@@ -44,8 +41,8 @@ same-length c = search needs
 
 returns : tie.Need-returns
 returns c =
-    let a = c .before .before .before .before .before .before .before .before .before .before .before .before .before .args in
-    let e = c .before .before .before .before .before .before .before .before .before .before .before .ending in
+    let a = c .before .before .before .before .before .before .before .before .before .before .before .before .args in
+    let e = c .before .before .before .before .before .before .before .before .before .before .ending in
     let t = c .before .before .before .before .before .before .before .before .ended in
     let p = c .before .before .before .before .before .before .before .push in
     let last = c .before .before .before .last-bits in
@@ -57,7 +54,6 @@ ac-enc-finish-spec =
     tie.close
     (tie.spec
     ending-requires
-    cast-bits
     ended-requires
     push-requires
     last-bits-requires

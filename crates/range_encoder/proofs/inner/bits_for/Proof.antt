@@ -14,9 +14,6 @@ add-result c = search needs
 floor-log2-requires : tie.Need-floor-log2-requires
 floor-log2-requires c κs = search needs
 
-cast-result : tie.Need-cast-result
-cast-result c = search needs
-
 sub-result : tie.Need-sub-result
 sub-result c = omega (arith, c .floor-log2 .ensures, log-range (c .before .args .range) (c .before .pre .1) (c .before .pre .2) .1)
 
@@ -25,4 +22,4 @@ returns c = search needs
 
 pub bits-for-spec : {M : Type 1} → statement M
 bits-for-spec =
-    tie.close (tie.spec mul-result add-result floor-log2-requires cast-result sub-result returns)
+    tie.close (tie.spec mul-result add-result floor-log2-requires sub-result returns)

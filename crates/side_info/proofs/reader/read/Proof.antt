@@ -2,9 +2,9 @@
 -- Assumes nothing.
 use mathlib.Core.Path.{_≡_, refl, sym, ap, _∙_}
 use mathlib.Core.Bool.{true}
-use lib.ListN.{length}
 use Rattle.common.specs.Configuration.{configurationPasses, ne, replyOf}
-use Rattle.common.proofs.Configurations.{lines-known, lines-unknown, ne-range, fs-limit, too-short, too-long, right-length}
+use Rattle.common.proofs.Bools.{refuted, confirmed}
+use Rattle.common.proofs.Configurations.{lines-known, lines-unknown, ne-range, fs-limit}
 use Rattle.side_info.proofs.Answers.{read-outside, read-length, read-on}
 use borrow.Author.Needs.{needs}
 use Rattle.side_info.proofs.reader.read.Statement.{statement}
@@ -23,15 +23,13 @@ enum-told c = search needs
 enum-known-lines : tie.Need-enum-known-lines
 enum-known-lines c = search needs
 
+frame-length-requires : tie.Need-frame-length-requires
+frame-length-requires c κs = search needs
+
 returns : tie.Need-returns
 returns c =
-    let a = c .before .before .before .before .before .before .args in
-    sym (read-length (a .configuration) (a .buf .now) (a .at) (known (c .before) .0) (too-short (length (a .buf .now)) (c .if1 .taken)))
-
-returns-2 : tie.Need-returns-2
-returns-2 c =
     let a = c .before .before .before .before .before .before .before .args in
-    sym (read-length (a .configuration) (a .buf .now) (a .at) (known (c .before .before) .0) (too-long (length (a .buf .now)) (c .if2 .taken)))
+    sym (read-length (a .configuration) (a .buf .now) (a .at) (known (c .before .before) .0) (refuted (c .before .frame-length .ensures) (c .if1 .taken)))
 
 read-all-requires : tie.Need-read-all-requires
 read-all-requires c κs =
@@ -40,17 +38,17 @@ read-all-requires c κs =
     let range = ne-range (a .configuration) (k .0) in
     (fs-limit (a .configuration) (k .0), rw (k .1) (range .0), rw (k .1) (range .1))
 
-returns-3 : tie.Need-returns-3
-returns-3 c =
+returns-2 : tie.Need-returns-2
+returns-2 c =
     let a = c .before .before .before .before .args in
     sym (read-outside (a .configuration) (a .buf .now) (a .at) (lines-unknown (a .configuration) (sym (c .before .before .lines .ensures) ∙ ap replyOf (c .enum-told .given .1))))
 
-returns-4 : tie.Need-returns-4
-returns-4 c =
+returns-3 : tie.Need-returns-3
+returns-3 c =
     let a = c .before .before .before .before .before .before .before .before .args in
     let k = known (c .before .before .before) in
     c .read-all .ensures ∙
-    sym (read-on (a .configuration) (a .buf .now) (a .at) (k .0) (right-length (length (a .buf .now)) (c .before .before .if1 .left) (c .before .if2 .left)) ∙ rw (k .1) refl)
+    sym (read-on (a .configuration) (a .buf .now) (a .at) (k .0) (confirmed (c .before .before .frame-length .ensures) (c .before .if1 .left)) ∙ rw (k .1) refl)
 
 pub read-spec : {M : Type 1} → statement M
 read-spec =
@@ -59,8 +57,8 @@ read-spec =
     lines-requires
     enum-told
     enum-known-lines
+    frame-length-requires
     returns
-    returns-2
     read-all-requires
-    returns-3
-    returns-4)
+    returns-2
+    returns-3)

@@ -3,7 +3,7 @@
 use mathlib.Core.Path.{refl}
 use native.Mathlib.Omega.{arith}
 use Rattle.side_info.proofs.Joints.{sns-limits}
-use Rattle.side_info.proofs.RoundTrip.{side-limits}
+use Rattle.side_info.proofs.SideLimits.{side-limits}
 use borrow.Author.Needs.{needs}
 use Rattle.side_info.proofs.writer.fields_of.Statement.{statement}
 use Rattle.side_info.proofs.writer.fields_of.Tie as tie

@@ -5,16 +5,16 @@ use mathlib.Core.Path.{_≡_, refl, sym, ap, _∙_}
 use mathlib.Core.Bool.{true}
 use native.Mathlib.Omega.{arith}
 use lib.ListN.{length}
-use Rattle.common.specs.Configuration.{configurationPasses, ne, replyOf}
+use Rattle.common.specs.Configuration.{configurationPasses, ne, frameLength, replyOf}
 use Rattle.common.specs.Tables.{total}
 use Rattle.common.proofs.Bools.{refuted, confirmed}
-use Rattle.common.proofs.Configurations.{lines-known, lines-unknown, ne-range, fs-limit, too-short, too-long, right-length}
+use Rattle.common.proofs.Configurations.{lines-known, lines-unknown, ne-range, fs-limit, length-limits}
 use Rattle.side_info.specs.Record.{sidePasses}
 use Rattle.side_info.specs.Layout.{sideWidths}
 use Rattle.side_info.proofs.Answers.{write-outside, write-length, write-field, write-on}
 use Rattle.side_info.proofs.Joints.{sns-limits}
 use Rattle.side_info.proofs.Lengths.{length-range}
-use Rattle.side_info.proofs.RoundTrip.{side-limits}
+use Rattle.side_info.proofs.SideLimits.{side-limits}
 use borrow.Author.Needs.{needs}
 use Rattle.side_info.proofs.writer.write.Statement.{statement}
 use Rattle.side_info.proofs.writer.write.Tie as tie
@@ -23,12 +23,16 @@ use Rattle.side_info.proofs.writer.write.Tie as tie
 known : (c : tie.After-known-told) → (configurationPasses (c .before .before .before .before .before .args .configuration) ≡ true) × (c .before .lines2 .given .0 .0 ≡ ne (c .before .before .before .before .before .args .configuration .duration) (c .before .before .before .before .before .args .configuration .«fs_ind»))
 known c = lines-known (c .before .before .before .before .before .args .configuration) (sym (c .before .before .before .lines .ensures) ∙ ap replyOf (c .before .lines2 .given .1))
 
+-- the frame's length passes
+sized : (c : tie.Else1) → frameLength (length (c .before .before .before .before .before .before .before .args .buf .now)) ≡ true
+sized c = confirmed (c .before .frame-length .ensures) (c .if1 .left)
+
 -- the record passes 13
-passed : (c : tie.Else3) → sidePasses (c .before .before .before .before .before .before .before .before .before .args .configuration .«fs_ind») (c .before .before .before .before .before .lines2 .given .0 .0) (c .before .before .before .before .before .before .before .before .before .args .side) ≡ true
-passed c = confirmed (c .before .side-passes .ensures) (c .if3 .left)
+passed : (c : tie.Else2) → sidePasses (c .before .before .before .before .before .before .before .before .before .args .configuration .«fs_ind») (c .before .before .before .before .before .lines2 .given .0 .0) (c .before .before .before .before .before .before .before .before .before .args .side) ≡ true
+passed c = confirmed (c .before .side-passes .ensures) (c .if2 .left)
 
 -- its fields have some bits
-long : (c : tie.Else3) → 1 ≤ total (sideWidths (c .before .before .before .before .before .before .before .before .before .args .configuration .«fs_ind») (c .before .before .before .before .before .lines2 .given .0 .0) (c .before .before .before .before .before .before .before .before .before .args .side))
+long : (c : tie.Else2) → 1 ≤ total (sideWidths (c .before .before .before .before .before .before .before .before .before .args .configuration .«fs_ind») (c .before .before .before .before .before .lines2 .given .0 .0) (c .before .before .before .before .before .before .before .before .before .args .side))
 long c =
     let a = c .before .before .before .before .before .before .before .before .before .args in
     let n = c .before .before .before .before .before .lines2 .given .0 .0 in
@@ -46,24 +50,22 @@ enum-told c = search needs
 enum-known-lines : tie.Need-enum-known-lines
 enum-known-lines c = search needs
 
+frame-length-requires : tie.Need-frame-length-requires
+frame-length-requires c κs = search needs
+
 returns : tie.Need-returns
 returns c =
-    let a = c .before .before .before .before .before .before .args in
-    write-length (a .configuration) (a .side) (a .buf .now) (a .at) (known (c .before) .0) (too-short (length (a .buf .now)) (c .if1 .taken))
-
-returns-2 : tie.Need-returns-2
-returns-2 c =
     let a = c .before .before .before .before .before .before .before .args in
-    write-length (a .configuration) (a .side) (a .buf .now) (a .at) (known (c .before .before) .0) (too-long (length (a .buf .now)) (c .if2 .taken))
+    write-length (a .configuration) (a .side) (a .buf .now) (a .at) (known (c .before .before) .0) (refuted (c .before .frame-length .ensures) (c .if1 .taken))
 
 side-passes-requires : tie.Need-side-passes-requires
 side-passes-requires c κs = search needs
 
-returns-3 : tie.Need-returns-3
-returns-3 c =
+returns-2 : tie.Need-returns-2
+returns-2 c =
     let a = c .before .before .before .before .before .before .before .before .before .args in
     let k = known (c .before .before .before .before) in
-    write-field (a .configuration) (a .side) (a .buf .now) (a .at) (k .0) (right-length (length (a .buf .now)) (c .before .before .before .if1 .left) (c .before .before .if2 .left)) (rw (k .1) at (refuted (c .before .side-passes .ensures) (c .if3 .taken)))
+    write-field (a .configuration) (a .side) (a .buf .now) (a .at) (k .0) (sized (c .before .before)) (rw (k .1) at (refuted (c .before .side-passes .ensures) (c .if2 .taken)))
 
 fields-of-requires : tie.Need-fields-of-requires
 fields-of-requires c κs =
@@ -76,22 +78,22 @@ write-fields-requires : tie.Need-write-fields-requires
 write-fields-requires c κs =
     let a = c .before .before .before .before .before .before .before .before .before .before .before .args in
     let made = c .before .fields-of .ensures in
-    (c .before .before .before .before .if2 .left, rw (made .1) (long (c .before .before)), rw (made .0) refl, rw (made .1) refl)
+    (omega (arith, length-limits (length (a .buf .now)) (sized (c .before .before .before .before))), rw (made .1) (long (c .before .before)), rw (made .0) refl, rw (made .1) refl)
 
-returns-4 : tie.Need-returns-4
-returns-4 c =
+returns-3 : tie.Need-returns-3
+returns-3 c =
     let a = c .before .before .before .before .args in
     write-outside (a .configuration) (a .side) (a .buf .now) (a .at) (lines-unknown (a .configuration) (sym (c .before .before .lines .ensures) ∙ ap replyOf (c .enum-told .given .1)))
 
 same-length : tie.Need-same-length
 same-length c = search needs
 
-returns-5 : tie.Need-returns-5
-returns-5 c =
+returns-4 : tie.Need-returns-4
+returns-4 c =
     let a = c .before .before .before .before .before .before .before .before .before .before .before .before .before .before .args in
     let k = known (c .before .before .before .before .before .before .before .before .before) in
     let made = c .before .before .before .before .fields-of .ensures in
-    let on = write-on (a .configuration) (a .side) (a .buf .now) (a .at) (k .0) (right-length (length (a .buf .now)) (c .before .before .before .before .before .before .before .before .if1 .left) (c .before .before .before .before .before .before .before .if2 .left)) (rw (k .1) at (passed (c .before .before .before .before .before))) in
+    let on = write-on (a .configuration) (a .side) (a .buf .now) (a .at) (k .0) (sized (c .before .before .before .before .before .before .before)) (rw (k .1) at (passed (c .before .before .before .before .before))) in
     let done = rw (made .0, made .1, k .1) at (c .before .before .write-fields .ensures) in
     (done .0 ∙ on .0, done .1 ∙ on .1)
 
@@ -102,12 +104,12 @@ write-spec =
     lines-requires
     enum-told
     enum-known-lines
+    frame-length-requires
     returns
-    returns-2
     side-passes-requires
-    returns-3
+    returns-2
     fields-of-requires
     write-fields-requires
-    returns-4
+    returns-3
     same-length
-    returns-5)
+    returns-4)

@@ -10,7 +10,7 @@ use Rattle.common.specs.Configuration.{configurationPasses, ne, frameLength}
 use Rattle.common.specs.Reply.{accepted}
 use Rattle.common.specs.Tables.{Tables, tablesPass}
 use Rattle.common.proofs.Bools.{refuted, confirmed}
-use Rattle.common.proofs.Configurations.{ne-range, too-short, too-long, right-length}
+use Rattle.common.proofs.Configurations.{ne-range, length-limits}
 use Rattle.common.proofs.Sets.{lookup-passed, bits-passed}
 use Rattle.contexts.specs.Contexts.{magnitudes}
 use Rattle.contexts.proofs.Lookups.{rate-most}
@@ -37,12 +37,12 @@ set-at c =
 passed : (c : tie.Else1) → configurationPasses (c .before .before .before .before .before .before .before .args .configuration) ≡ true
 passed c = confirmed (c .before .passes .ensures) (c .if1 .left)
 
-right : (c : tie.Else4) → frameLength (c .before .before .before .before .before .before .before .before .before .before .args .bytes) ≡ true
-right c = right-length (c .before .before .before .before .before .before .before .before .before .before .args .bytes) (c .before .if3 .left) (c .if4 .left)
+right : (c : tie.Else3) → frameLength (c .before .before .before .before .before .before .before .before .before .before .args .bytes) ≡ true
+right c = confirmed (c .before .frame-length .ensures) (c .if3 .left)
 
-held : (c : tie.Else5) → tablesPass (set-at (c .before .before .before .before .before .before .before .before .before .before .before .before)) ≡ true
+held : (c : tie.Else4) → tablesPass (set-at (c .before .before .before .before .before .before .before .before .before .before .before .before)) ≡ true
 unfolding set-at
-held c = confirmed (c .before .tables-pass .ensures) (c .if5 .left)
+held c = confirmed (c .before .tables-pass .ensures) (c .if4 .left)
 
 -- the frame's numbers of lines and its rate flag are those of the configuration
 count-is : (c : tie.After-frame-of) → c .frame-of .result .ne ≡ ne (c .before .before .before .before .before .before .before .before .before .before .before .before .before .args .configuration .duration) (c .before .before .before .before .before .before .before .before .before .before .before .before .before .args .configuration .«fs_ind»)
@@ -53,8 +53,8 @@ rate-is c =
     let a = c .before .before .before .before .before .before .before .before .before .before .before .before .before .args in
     rw (ap (λ (f : Frame). f .rate) (c .frame-of .ensures)) (rate-most (8 * a .bytes) (a .configuration .«fs_ind»))
 
-counted : (c : tie.Else6) → length (c .before .before .before .before .before .before .before .before .before .before .before .before .before .before .before .args .lines .now) ≡ ne (c .before .before .before .before .before .before .before .before .before .before .before .before .before .before .before .args .configuration .duration) (c .before .before .before .before .before .before .before .before .before .before .before .before .before .before .before .args .configuration .«fs_ind»)
-counted c = c .if6 .left ∙ count-is (c .before .before)
+counted : (c : tie.Else5) → length (c .before .before .before .before .before .before .before .before .before .before .before .before .before .before .before .args .lines .now) ≡ ne (c .before .before .before .before .before .before .before .before .before .before .before .before .before .before .before .args .configuration .duration) (c .before .before .before .before .before .before .before .before .before .before .before .before .before .before .before .args .configuration .«fs_ind»)
+counted c = c .if5 .left ∙ count-is (c .before .before)
 
 passes-requires : tie.Need-passes-requires
 passes-requires c κs = search needs
@@ -73,39 +73,35 @@ returns-2 c =
     let a = s .args in
     sym (estimate-target (a .configuration) (a .bytes) (set-at s) (a .target) (a .lines .now) (passed (c .before)) (c .if2 .taken))
 
+frame-length-requires : tie.Need-frame-length-requires
+frame-length-requires c κs = search needs
+
 returns-3 : tie.Need-returns-3
 unfolding set-at
 returns-3 c =
-    let s = c .before .before .before .before .before .before .before .before .before in
-    let a = s .args in
-    sym (estimate-length (a .configuration) (a .bytes) (set-at s) (a .target) (a .lines .now) (passed (c .before .before)) (c .before .if2 .left) (too-short (a .bytes) (c .if3 .taken)))
-
-returns-4 : tie.Need-returns-4
-unfolding set-at
-returns-4 c =
     let s = c .before .before .before .before .before .before .before .before .before .before in
     let a = s .args in
-    sym (estimate-length (a .configuration) (a .bytes) (set-at s) (a .target) (a .lines .now) (passed (c .before .before .before)) (c .before .before .if2 .left) (too-long (a .bytes) (c .if4 .taken)))
+    sym (estimate-length (a .configuration) (a .bytes) (set-at s) (a .target) (a .lines .now) (passed (c .before .before .before)) (c .before .before .if2 .left) (refuted (c .before .frame-length .ensures) (c .if3 .taken)))
 
 tables-pass-requires : tie.Need-tables-pass-requires
 tables-pass-requires c κs = search needs
 
+returns-4 : tie.Need-returns-4
+unfolding set-at
+returns-4 c =
+    let s = c .before .before .before .before .before .before .before .before .before .before .before .before in
+    let a = s .args in
+    sym (estimate-tables (a .configuration) (a .bytes) (set-at s) (a .target) (a .lines .now) (passed (c .before .before .before .before .before)) (c .before .before .before .before .if2 .left) (right (c .before .before)) (refuted (c .before .tables-pass .ensures) (c .if4 .taken)))
+
+frame-of-requires : tie.Need-frame-of-requires
+frame-of-requires c κs = (passed (c .before .before .before .before .before), length-limits (c .before .before .before .before .before .before .before .before .before .before .before .before .args .bytes) (right (c .before .before)) .1)
+
 returns-5 : tie.Need-returns-5
 unfolding set-at
 returns-5 c =
-    let s = c .before .before .before .before .before .before .before .before .before .before .before .before in
-    let a = s .args in
-    sym (estimate-tables (a .configuration) (a .bytes) (set-at s) (a .target) (a .lines .now) (passed (c .before .before .before .before .before)) (c .before .before .before .before .if2 .left) (right (c .before .before)) (refuted (c .before .tables-pass .ensures) (c .if5 .taken)))
-
-frame-of-requires : tie.Need-frame-of-requires
-frame-of-requires c κs = (passed (c .before .before .before .before .before), c .before .before .if4 .left)
-
-returns-6 : tie.Need-returns-6
-unfolding set-at
-returns-6 c =
     let s = c .before .before .before .before .before .before .before .before .before .before .before .before .before .before .before in
     let a = s .args in
-    sym (estimate-count (a .configuration) (a .bytes) (set-at s) (a .target) (a .lines .now) (passed (c .before .before .before .before .before .before .before .before)) (c .before .before .before .before .before .before .before .if2 .left) (right (c .before .before .before .before .before)) (held (c .before .before .before)) (λ e. c .if6 .taken (e ∙ sym (count-is (c .before .before)))))
+    sym (estimate-count (a .configuration) (a .bytes) (set-at s) (a .target) (a .lines .now) (passed (c .before .before .before .before .before .before .before .before)) (c .before .before .before .before .before .before .before .if2 .left) (right (c .before .before .before .before .before)) (held (c .before .before .before)) (λ e. c .if5 .taken (e ∙ sym (count-is (c .before .before)))))
 
 consumption-requires : tie.Need-consumption-requires
 unfolding set-at
@@ -120,9 +116,9 @@ consumption-requires c κs =
       omega (arith, counted c, r .1),
     )
 
-returns-7 : tie.Need-returns-7
+returns-6 : tie.Need-returns-6
 unfolding set-at
-returns-7 c =
+returns-6 c =
     let s = c .before .before .before .before .before .before .before .before .before .before .before .before .before .before .before .before in
     let a = s .args in
     let e = c .before in
@@ -136,11 +132,11 @@ compute-bit-consumption-spec =
     passes-requires
     returns
     returns-2
+    frame-length-requires
     returns-3
-    returns-4
     tables-pass-requires
-    returns-5
+    returns-4
     frame-of-requires
-    returns-6
+    returns-5
     consumption-requires
-    returns-7)
+    returns-6)
