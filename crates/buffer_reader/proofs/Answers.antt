@@ -36,7 +36,7 @@ module _ (f : List ℕ) (c : Cursor) where
   pub bit-long : 65535 < length f → takeBit f c ≡ refused (wrongLength (length f))
   bit-long l = rw (lt-ltb 65535 (length f) l) refl
 
-  pub bit-refused : length f ≤ 65535 → bitBeyond (length f) c ≡ true → takeBit f c ≡ refused (noTailRoom 1 (c .tail % 8))
+  pub bit-refused : length f ≤ 65535 → bitBeyond (length f) c ≡ true → takeBit f c ≡ refused (noTailRoom 1 (c .tail))
   bit-refused l p = rw (le-ltb 65535 (length f) l, p) refl
 
   pub bit-taken : length f ≤ 65535 → bitBeyond (length f) c ≡ false → takeBit f c ≡ accepted (eqb (tailBit f (c .tail)) 1, record { head = c .head; tail = c .tail + 1 })
@@ -49,7 +49,7 @@ module _ (f : List ℕ) (c : Cursor) (n : ℕ) where
   pub bits-unlisted : length f ≤ 65535 → listed n ≡ false → takeBits f c n ≡ refused (widthNotListed n)
   bits-unlisted l w = rw (le-ltb 65535 (length f) l, w) refl
 
-  pub bits-refused : length f ≤ 65535 → listed n ≡ true → fieldBeyond (length f) c n ≡ true → takeBits f c n ≡ refused (noTailRoom n (c .tail % 8))
+  pub bits-refused : length f ≤ 65535 → listed n ≡ true → fieldBeyond (length f) c n ≡ true → takeBits f c n ≡ refused (noTailRoom n (c .tail))
   bits-refused l w p = rw (le-ltb 65535 (length f) l, w, p) refl
 
   pub bits-taken : length f ≤ 65535 → listed n ≡ true → fieldBeyond (length f) c n ≡ false → takeBits f c n ≡ accepted (field f (c .tail) n, record { head = c .head; tail = c .tail + n })
@@ -85,12 +85,12 @@ module _ (f g : List ℕ) (c : Cursor) (size : length f ≡ length g) where
   pub bit-refusal : (r : Reply) → takeBit f c ≡ refused r → takeBit g c ≡ refused r
   bit-refusal r e =
       refusal-first (ltb 65535 (length g)) (wrongLength (length g)) r _ _
-      (λ e. refusal-first (bitBeyond (length g) c) (noTailRoom 1 (c .tail % 8)) r _ _ (λ z. absurd (no-refusal z)) e)
+      (λ e. refusal-first (bitBeyond (length g) c) (noTailRoom 1 (c .tail)) r _ _ (λ z. absurd (no-refusal z)) e)
       (rw size at e)
 
   pub bits-refusal : (n : ℕ) (r : Reply) → takeBits f c n ≡ refused r → takeBits g c n ≡ refused r
   bits-refusal n r e =
       refusal-first (ltb 65535 (length g)) (wrongLength (length g)) r _ _
       (λ e. refusal-first (not (listed n)) (widthNotListed n) r _ _
-      (λ e. refusal-first (fieldBeyond (length g) c n) (noTailRoom n (c .tail % 8)) r _ _ (λ z. absurd (no-refusal z)) e) e)
+      (λ e. refusal-first (fieldBeyond (length g) c n) (noTailRoom n (c .tail)) r _ _ (λ z. absurd (no-refusal z)) e) e)
       (rw size at e)

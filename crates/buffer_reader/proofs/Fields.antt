@@ -9,8 +9,9 @@ use native.Mathlib.Nat.{mod-one, mul-comm, add-comm}
 use lib.ListN.{length, getD}
 use lib.Pow.{shr-shr, shl-shr}
 use lib.Pow.{field as Pow·field}
-use Rattle.buffer_reader.specs.Tail.{tailByte, tailBit, field, tailNumber}
-use Rattle.buffer_reader.proofs.Tails.{field-none, field-more, cut-more, bit-below}
+use Rattle.buffer_reader.specs.Tail.{tailByte, tailBit, field}
+use Rattle.buffer_reader.specs.Private.{tailNumber}
+use Rattle.buffer_reader.proofs.Tails.{field-none, field-more, cut-more, bit-below, tail-byte-there, tail-byte-fits}
 
 pub number-none : (f : List ℕ) (j : ℕ) → tailNumber f j 0 ≡ 0
 unfolding tailNumber
@@ -37,7 +38,7 @@ module _ (f : List ℕ) (bytes : (i : ℕ) → getD f i 0 < 256) where
           rw (number-more f j k, low-bit (tailByte f j) (tailNumber f (j + 1) k) i l, byte, bit) refl
       go (no l) ih =
           let place : 8 + (i - 8) ≡ i = omega (arith, l) in
-          let high : tailNumber f j (suc k) / 256 ≡ tailNumber f (j + 1) k = omega (arith, number-more f j k, bytes (length f - 1 - j)) in
+          let high : tailNumber f j (suc k) / 256 ≡ tailNumber f (j + 1) k = omega (arith, number-more f j k, tail-byte-fits f j bytes) in
           let shift : tailNumber f j (suc k) / 2 ^ i ≡ tailNumber f (j + 1) k / 2 ^ (i - 8) =
           ap (λ (x : ℕ). tailNumber f j (suc k) / 2 ^ x) (sym place) ∙ sym (shr-shr (tailNumber f j (suc k)) 8 (i - 8)) ∙ ap (λ (x : ℕ). x / 2 ^ (i - 8)) high in
           let at : 8 * (j + 1) + (i - 8) ≡ 8 * j + i = omega (arith, l) in
@@ -64,17 +65,19 @@ module _ (f : List ℕ) (j : ℕ) where
   abbrev back : ℕ → ℕ
   back d = getD f (length f - j - suc d) 0
 
-  placed : (d i : ℕ) → j + d ≡ i → back d ≡ tailByte f i
-  placed d i e = let at : length f - j - suc d ≡ length f - 1 - i = omega arith in ap (λ (k : ℕ). getD f k 0) at
+  placed : (d i : ℕ) → j + d ≡ i → i < length f → back d ≡ tailByte f i
+  placed d i e h =
+      let at : length f - j - suc d ≡ length f - 1 - i = omega arith in
+      ap (λ (k : ℕ). getD f k 0) at ∙ sym (tail-byte-there f i h)
 
-  pub number-one : tailNumber f j 1 ≡ back 0
-  number-one = omega (arith, number-more f j 0, number-none f (j + 1), placed 0 j (omega arith))
+  pub number-one : j + 1 ≤ length f → tailNumber f j 1 ≡ back 0
+  number-one h = omega (arith, number-more f j 0, number-none f (j + 1), placed 0 j (omega arith) (omega arith))
 
-  pub number-two : tailNumber f j 2 ≡ back 0 + back 1 * 256
-  number-two = omega (arith, number-more f j 1, number-more f (j + 1) 0, number-none f (j + 1 + 1), placed 0 j (omega arith), placed 1 (j + 1) (omega arith))
+  pub number-two : j + 2 ≤ length f → tailNumber f j 2 ≡ back 0 + back 1 * 256
+  number-two h = omega (arith, number-more f j 1, number-more f (j + 1) 0, number-none f (j + 1 + 1), placed 0 j (omega arith) (omega arith), placed 1 (j + 1) (omega arith) (omega arith))
 
-  pub number-three : tailNumber f j 3 ≡ back 0 + back 1 * 256 + back 2 * 65536
-  number-three = omega (arith, number-more f j 2, number-more f (j + 1) 1, number-more f (j + 1 + 1) 0, number-none f (j + 1 + 1 + 1), placed 0 j (omega arith), placed 1 (j + 1) (omega arith), placed 2 (j + 1 + 1) (omega arith))
+  pub number-three : j + 3 ≤ length f → tailNumber f j 3 ≡ back 0 + back 1 * 256 + back 2 * 65536
+  number-three h = omega (arith, number-more f j 2, number-more f (j + 1) 1, number-more f (j + 1 + 1) 0, number-none f (j + 1 + 1 + 1), placed 0 j (omega arith) (omega arith), placed 1 (j + 1) (omega arith) (omega arith), placed 2 (j + 1 + 1) (omega arith) (omega arith))
 
-  pub number-four : tailNumber f j 4 ≡ back 0 + back 1 * 256 + back 2 * 65536 + back 3 * 16777216
-  number-four = omega (arith, number-more f j 3, number-more f (j + 1) 2, number-more f (j + 1 + 1) 1, number-more f (j + 1 + 1 + 1) 0, number-none f (j + 1 + 1 + 1 + 1), placed 0 j (omega arith), placed 1 (j + 1) (omega arith), placed 2 (j + 1 + 1) (omega arith), placed 3 (j + 1 + 1 + 1) (omega arith))
+  pub number-four : j + 4 ≤ length f → tailNumber f j 4 ≡ back 0 + back 1 * 256 + back 2 * 65536 + back 3 * 16777216
+  number-four h = omega (arith, number-more f j 3, number-more f (j + 1) 2, number-more f (j + 1 + 1) 1, number-more f (j + 1 + 1 + 1) 0, number-none f (j + 1 + 1 + 1 + 1), placed 0 j (omega arith) (omega arith), placed 1 (j + 1) (omega arith) (omega arith), placed 2 (j + 1 + 1) (omega arith) (omega arith), placed 3 (j + 1 + 1 + 1) (omega arith) (omega arith))

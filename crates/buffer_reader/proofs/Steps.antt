@@ -10,7 +10,7 @@ use lib.Dec.{ltb}
 use lib.ListN.{length}
 use Rattle.common.specs.Reply.{Step, Reply, Answer, accepted, refused, given, andThen, within, wrongLength, widthNotListed, noTailRoom}
 use Rattle.common.proofs.Replies.{accepted-same, then-split, given-split, within-split}
-use Rattle.buffer_reader.specs.Tail.{tailBit}
+use Rattle.buffer_reader.specs.Tail.{Agree}
 use Rattle.buffer_reader.specs.Reads.{takeBits, takeBit, listed, fieldBeyond, bitBeyond}
 use Rattle.buffer_reader.specs.Steps.{Reading, found, next, refusing, ifPresent, fieldIn, flagIn, asNumber}
 use Rattle.buffer_reader.specs.declared.Cursor.{Cursor}
@@ -62,10 +62,6 @@ flag-holds s f c =
     anything (accepted x) = tt
     anything (refused r) = tt
 
--- two frames agree on the tail places from one to another
-abbrev pub Agree : List ℕ → List ℕ → ℕ → ℕ → Type 0
-Agree f g from to = (j : ℕ) → from ≤ j → j < to → tailBit f j ≡ tailBit g j
-
 -- a reading that goes forward, and depends on its own bits alone
 pub record Local {A : Type 0} (s : Reading A) : Type 0 where
   pub forward : (f : List ℕ) (c : Cursor) (x : A) (d : Cursor) → s f c ≡ accepted (x, d) → c .tail ≤ d .tail
@@ -112,7 +108,7 @@ field-end : (n : ℕ) (f : List ℕ) (c : Cursor) (x : ℕ) (d : Cursor) → tak
 field-end n f c x d e =
     let a = given-split (ltb 65535 (length f)) (wrongLength (length f)) _ e in
     let b = given-split (not (listed n)) (widthNotListed n) _ (a .1) in
-    let r = given-split (fieldBeyond (length f) c n) (noTailRoom n (c .tail % 8)) _ (b .1) in
+    let r = given-split (fieldBeyond (length f) c n) (noTailRoom n (c .tail)) _ (b .1) in
     tail-same (r .1)
 
 pub local-field : (s : Step) (n : ℕ) → Local (fieldIn s n)
@@ -126,7 +122,7 @@ local-field s n =
 bit-end : (f : List ℕ) (c : Cursor) (b : Bool) (d : Cursor) → takeBit f c ≡ accepted (b, d) → c .tail + 1 ≡ d .tail
 bit-end f c b d e =
     let a = given-split (ltb 65535 (length f)) (wrongLength (length f)) _ e in
-    let r = given-split (bitBeyond (length f) c) (noTailRoom 1 (c .tail % 8)) _ (a .1) in
+    let r = given-split (bitBeyond (length f) c) (noTailRoom 1 (c .tail)) _ (a .1) in
     tail-same (r .1)
 
 flag-end : (s : Step) (f : List ℕ) (c : Cursor) (x : ℕ) (d : Cursor) → flagIn s f c ≡ accepted (x, d) → c .tail + 1 ≡ d .tail

@@ -1,12 +1,31 @@
 -- The laws of a field, over its width: it is its bits, it is below 2 to its width, n bits then m bits are n + m bits, and it
 -- depends on the bits at its places alone. Assumes nothing.
-use Prim.Native.Nat.{ℕ, zero, suc, _+_, _-_, _*_, _/_, _%_, _^_, _<_}
+use Prim.Native.Nat.{ℕ, zero, suc, _+_, _-_, _*_, _/_, _%_, _^_, _≤_, _<_}
 use mathlib.Core.Path.{_≡_, refl, ap, _∙_}
 use mathlib.Core.List.{List}
 use native.Mathlib.Omega.{arith}
 use native.Mathlib.Nat.{add-zero, zero-add, add-assoc, mul-assoc, pow-succ', pow-suc, two-pow-succ, one-mul, add-comm, add-mul-div-right, add-mul-mod-self-right}
 use lib.Pow.{pow-pos, pow-add, shr-shr, mod-pow-add}
-use Rattle.buffer_reader.specs.Tail.{tailBit, field}
+use borrow.Author.Tests.{lt-ltb, le-ltb}
+use lib.Dec.{ltb}
+use lib.ListN.{length, getD}
+use Rattle.common.proofs.Bools.{by-test}
+use Rattle.buffer_reader.specs.Tail.{tailByte, tailBit, field, Bytes}
+
+-- a byte that is there, and zeros past the first
+pub tail-byte-there : (f : List ℕ) (j : ℕ) → j < length f → tailByte f j ≡ getD f (length f - 1 - j) 0
+tail-byte-there f j h = rw (lt-ltb j (length f) h) refl
+
+pub tail-byte-past : (f : List ℕ) (j : ℕ) → length f ≤ j → tailByte f j ≡ 0
+tail-byte-past f j h = rw (le-ltb j (length f) h) refl
+
+pub tail-byte-fits : (f : List ℕ) (j : ℕ) → Bytes f → tailByte f j < 256
+tail-byte-fits f j bytes =
+    by-test (ltb j (length f)) (λ e. rw e (bytes (length f - 1 - j))) (λ e. rw e (omega arith))
+
+-- a bit that is there, by its byte's place from the start
+pub tail-bit-there : (f : List ℕ) (i : ℕ) → i / 8 < length f → tailBit f i ≡ getD f (length f - 1 - i / 8) 0 / 2 ^ (i % 8) % 2
+tail-bit-there f i h = ap (λ (b : ℕ). b / 2 ^ (i % 8) % 2) (tail-byte-there f (i / 8) h)
 
 pub bit-lt : (f : List ℕ) (i : ℕ) → tailBit f i < 2
 bit-lt f i = omega arith

@@ -8,7 +8,7 @@ use Rattle.common.specs.Reply.{Reply, Answer, accepted, refused}
 use Rattle.common.proofs.Unique.{from-back}
 use Rattle.buffer_reader.specs.Reads.{replyOf, byteOf, threeOf, bitsOf, bitOf}
 use Rattle.buffer_reader.specs.declared.BufferError.{BufferError}
-use Rattle.buffer_reader.specs.declared.BufferError.the-variants.{TooLong, WidthNotListed, NoTailRoom, PastEnd}
+use Rattle.buffer_reader.specs.declared.BufferError.the-variants.{WrongLength, WidthNotListed, NoTailRoom, PastEnd}
 use Rattle.buffer_reader.specs.declared.ByteRead.{ByteRead}
 use Rattle.buffer_reader.specs.declared.ByteRead.the-variants.{Byte, Refused as ByteRefused}
 use Rattle.buffer_reader.specs.declared.ThreeRead.{ThreeRead}
@@ -21,13 +21,13 @@ use Rattle.buffer_reader.specs.declared.BitRead.the-variants.{Bit, Refus
 -- a refusal, found again by its number
 unfoldable pub errorBack : Reply → BufferError
 errorBack r =
-    cond (eqb (r .number) 2) (TooLong (getD (r .values) 0 0))
+    cond (eqb (r .number) 2) (WrongLength (getD (r .values) 0 0))
     (cond (eqb (r .number) 17) (WidthNotListed (getD (r .values) 0 0))
     (cond (eqb (r .number) 9) (NoTailRoom (getD (r .values) 0 0) (getD (r .values) 1 0)) (PastEnd (getD (r .values) 0 0))))
 
 pub error-back : (e : BufferError) → errorBack (replyOf e) ≡ e
 unfolding errorBack
-error-back (TooLong n) = refl
+error-back (WrongLength n) = refl
 error-back (WidthNotListed n) = refl
 error-back (NoTailRoom n b) = refl
 error-back (PastEnd h) = refl

@@ -1,3 +1,4 @@
 pub mod Tail
 pub mod Reads
 pub mod Steps
+pub mod Private

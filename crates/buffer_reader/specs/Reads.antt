@@ -1,14 +1,14 @@
 -- Document 01, "Modules in port order", 1: what each read answers, at any cursor of any buffer. Sums are exact.
 use Prim.Native.Nat.{ℕ, _+_, _*_, _/_, _%_, _-_}
 use mathlib.Core.Bool.{Bool, cond, not, _&&_, _||_}
-use mathlib.Core.List.{List}
+use mathlib.Core.List.{List, [], _∷_}
 use lib.Dec.{leb, ltb, eqb}
 use lib.ListN.{length, getD}
-use Rattle.common.specs.Reply.{Reply, Answer, accepted, refused, given, wrongLength, widthNotListed, noTailRoom, headPastEnd}
+use Rattle.common.specs.Reply.{Reply, Answer, accepted, refused, given, reply, wrongLength, widthNotListed, noTailRoom, headPastEnd}
 use Rattle.buffer_reader.specs.Tail.{tailBit, field}
 use Rattle.buffer_reader.specs.declared.Cursor.{Cursor}
 use Rattle.buffer_reader.specs.declared.BufferError.{BufferError}
-use Rattle.buffer_reader.specs.declared.BufferError.the-variants.{TooLong, WidthNotListed, NoTailRoom, PastEnd}
+use Rattle.buffer_reader.specs.declared.BufferError.the-variants.{WrongLength, WidthNotListed, NoTailRoom, PastEnd}
 use Rattle.buffer_reader.specs.declared.ByteRead.{ByteRead}
 use Rattle.buffer_reader.specs.declared.ByteRead.the-variants.{Byte, Refused as ByteRefused}
 use Rattle.buffer_reader.specs.declared.ThreeRead.{ThreeRead}
@@ -57,7 +57,7 @@ abbrev pub takeBits : List ℕ → Cursor → ℕ → Answer (ℕ × Cursor)
 takeBits f c n =
     tooLong f
     (given (not (listed n)) (widthNotListed n)
-    (given (fieldBeyond (length f) c n) (noTailRoom n (c .tail % 8))
+    (given (fieldBeyond (length f) c n) (noTailRoom n (c .tail))
     (accepted (field f (c .tail) n, record { head = c .head; tail = c .tail + n }))))
 
 -- "one bit is refused exactly if head + tail/8 > length + 2 or tail/8 >= length"
@@ -68,14 +68,14 @@ bitBeyond len c = ltb (len + 2) (c .head + c .tail / 8) || leb len (c .tail / 8)
 abbrev pub takeBit : List ℕ → Cursor → Answer (Bool × Cursor)
 takeBit f c =
     tooLong f
-    (given (bitBeyond (length f) c) (noTailRoom 1 (c .tail % 8))
+    (given (bitBeyond (length f) c) (noTailRoom 1 (c .tail))
     (accepted (eqb (tailBit f (c .tail)) 1, record { head = c .head; tail = c .tail + 1 })))
 
 -- document 01's number and values of each refusal
 abbrev pub replyOf : BufferError → Reply
-replyOf (TooLong len) = wrongLength len
+replyOf (WrongLength len) = wrongLength len
 replyOf (WidthNotListed width) = widthNotListed width
-replyOf (NoTailRoom width bitIndex) = noTailRoom width bitIndex
+replyOf (NoTailRoom width bitIndex) = reply 9 (width ∷ bitIndex ∷ [])
 replyOf (PastEnd head) = headPastEnd head
 
 -- what each enum of an answer says

@@ -1,12 +1,15 @@
 -- Document 01, "Modules in port order", 1: the tail's bits. "Tail bits start at the lowest bit of the last byte; a field's
 -- first bit is its lowest." A frame is its list of bytes.
-use Prim.Native.Nat.{ℕ, zero, suc, _+_, _-_, _*_, _/_, _%_, _^_}
+use Prim.Native.Nat.{ℕ, zero, suc, _+_, _-_, _*_, _/_, _%_, _^_, _≤_, _<_}
+use mathlib.Core.Path.{_≡_}
+use mathlib.Core.Bool.{cond}
 use mathlib.Core.List.{List}
+use lib.Dec.{ltb}
 use lib.ListN.{length, getD}
 
--- the byte at place j from the end: 0 is the last
+-- the byte at place j from the end: place 0 is the last byte, and past the first byte there are zeros
 abbrev pub tailByte : List ℕ → ℕ → ℕ
-tailByte f j = getD f (length f - 1 - j) 0
+tailByte f j = cond (ltb j (length f)) (getD f (length f - 1 - j) 0) 0
 
 -- the bit at tail place i: 0 is the lowest bit of the last byte
 abbrev pub tailBit : List ℕ → ℕ → ℕ
@@ -17,8 +20,10 @@ unfoldable pub field : List ℕ → ℕ → ℕ → ℕ
 field f i zero = 0
 field f i (suc n) = tailBit f i + 2 * field f (i + 1) n
 
--- k bytes from place j from the end on, as one number, the byte nearest the end lowest: what the code gathers before it cuts
--- a field out; no read's answer speaks of it
-unfoldable pub tailNumber : List ℕ → ℕ → ℕ → ℕ
-tailNumber f j zero = 0
-tailNumber f j (suc k) = tailByte f j + 256 * tailNumber f (j + 1) k
+-- what theorems say of frames: two of them agree on the tail places from one up to another
+abbrev pub Agree : List ℕ → List ℕ → ℕ → ℕ → Type 0
+Agree f g from to = (i : ℕ) → from ≤ i → i < to → tailBit f i ≡ tailBit g i
+
+-- and a list is one of bytes
+abbrev pub Bytes : List ℕ → Type 0
+Bytes f = (i : ℕ) → getD f i 0 < 256

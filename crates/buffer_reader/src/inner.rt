@@ -1,6 +1,16 @@
 // What the crates of this repository use beside the reads.
 ghost use mathlib.Core.Path.{_≡_};
+ghost use Rattle.common.specs.Reply.{noTailRoom};
+ghost use Rattle.buffer_reader.specs.Reads.{replyOf};
 ghost use Rattle.buffer_reader.specs.Reads.{listed as Reads·listed};
+use crate::BufferError;
+
+// Refusal 9 of a field at a tail place, for reads and writes alike: its second number is reckoned here and nowhere else.
+pub fn no_tail_room(num_bits: usize, tail: usize) -> BufferError
+    ensures { λ r. ⌜ replyOf r ≡ noTailRoom «num_bits» tail ⌝ }
+{
+    BufferError::NoTailRoom(num_bits, tail % 8)
+}
 
 // Whether a width is listed, for reads and writes alike.
 pub fn listed(num_bits: usize) -> bool

@@ -11,9 +11,9 @@ pub struct Cursor {
     pub tail: usize,
 }
 
-// Why a read is refused, with the numbers of document 01.
+// Why a read or a write is refused, with the numbers of document 01.
 pub enum BufferError {
-    TooLong(usize),
+    WrongLength(usize),
     WidthNotListed(usize),
     NoTailRoom(usize, usize),
     PastEnd(usize),
@@ -52,7 +52,7 @@ impl Cursor {
     {
         let head = self.head;
         if 65535 < buf.len() {
-            return ByteRead::Refused(BufferError::TooLong(buf.len()));
+            return ByteRead::Refused(BufferError::WrongLength(buf.len()));
         }
         if buf.len() <= head {
             return ByteRead::Refused(BufferError::PastEnd(head));
@@ -73,7 +73,7 @@ impl Cursor {
         let head = self.head;
         let len = buf.len();
         if 65535 < len {
-            return ThreeRead::Refused(BufferError::TooLong(len));
+            return ThreeRead::Refused(BufferError::WrongLength(len));
         }
         // by a difference, since the cursor may be any number
         if len < 3 {
@@ -99,7 +99,7 @@ impl Cursor {
     {
         let len = buf.len();
         if 65535 < len {
-            return BitsRead::Refused(BufferError::TooLong(len));
+            return BitsRead::Refused(BufferError::WrongLength(len));
         }
         if !inner::listed(num_bits) {
             return BitsRead::Refused(BufferError::WidthNotListed(num_bits));
@@ -108,7 +108,7 @@ impl Cursor {
         let bit_index = self.tail % 8;
         let num_bytes = tail::bytes_wanted(num_bits, bit_index);
         if tail::field_beyond(len, num_bytes, self.head, byte_index) {
-            return BitsRead::Refused(BufferError::NoTailRoom(num_bits, bit_index));
+            return BitsRead::Refused(inner::no_tail_room(num_bits, self.tail));
         }
         BitsRead::Bits(
             tail::field(buf, byte_index, bit_index, num_bits, num_bytes),
@@ -125,12 +125,12 @@ impl Cursor {
     {
         let len = buf.len();
         if 65535 < len {
-            return BitRead::Refused(BufferError::TooLong(len));
+            return BitRead::Refused(BufferError::WrongLength(len));
         }
         let byte_index = self.tail / 8;
         let bit_index = self.tail % 8;
         if tail::bit_beyond(len, self.head, byte_index) {
-            return BitRead::Refused(BufferError::NoTailRoom(1, bit_index));
+            return BitRead::Refused(inner::no_tail_room(1, self.tail));
         }
         let at = len - 1 - byte_index;
         BitRead::Bit(

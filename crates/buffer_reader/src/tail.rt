@@ -4,7 +4,7 @@ ghost use mathlib.Core.Bool.{_||_};
 ghost use Prim.Native.Nat.{_+_, _*_, _/_, _%_, _^_, _≤_, _<_};
 ghost use lib.Dec.{ltb, leb};
 ghost use lib.ListN.{length};
-ghost use Rattle.buffer_reader.specs.Tail.{tailNumber};
+ghost use Rattle.buffer_reader.specs.Private.{tailNumber};
 ghost use Rattle.buffer_reader.specs.Tail.{field as Tail·field};
 ghost use Rattle.buffer_reader.specs.Reads.{bytesWanted};
 

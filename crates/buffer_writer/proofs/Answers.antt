@@ -26,7 +26,7 @@ module _ (f : List ℕ) (c : Cursor) (v n : ℕ) where
   pub field-unlisted : length f ≤ 65535 → listed n ≡ false → (refused (widthNotListed n) ≡ writeField f c n) × (f ≡ fieldWritten f c v n)
   field-unlisted l w = (rw (le-ltb 65535 (length f) l, w) refl, rw (le-ltb 65535 (length f) l, w) refl)
 
-  pub field-beyond : length f ≤ 65535 → listed n ≡ true → beyondStart (length f) c n ≡ true → (refused (noTailRoom n (c .tail % 8)) ≡ writeField f c n) × (f ≡ fieldWritten f c v n)
+  pub field-beyond : length f ≤ 65535 → listed n ≡ true → beyondStart (length f) c n ≡ true → (refused (noTailRoom n (c .tail)) ≡ writeField f c n) × (f ≡ fieldWritten f c v n)
   field-beyond l w p = (rw (le-ltb 65535 (length f) l, w, p) refl, rw (le-ltb 65535 (length f) l, w, p) refl)
 
   pub field-put : length f ≤ 65535 → listed n ≡ true → beyondStart (length f) c n ≡ false → (accepted (record { head = c .head; tail = c .tail + n }) ≡ writeField f c n) × (putField f (c .tail) v n ≡ fieldWritten f c v n)
@@ -50,7 +50,7 @@ module _ (f : List ℕ) (c : Cursor) (b : Bool) where
   pub bit-long : 65535 < length f → (refused (wrongLength (length f)) ≡ writeBit f c) × (f ≡ bitWritten f c b)
   bit-long l = (rw (lt-ltb 65535 (length f) l) refl, rw (lt-ltb 65535 (length f) l) refl)
 
-  pub bit-beyond : length f ≤ 65535 → beyondStart (length f) c 1 ≡ true → (refused (noTailRoom 1 (c .tail % 8)) ≡ writeBit f c) × (f ≡ bitWritten f c b)
+  pub bit-beyond : length f ≤ 65535 → beyondStart (length f) c 1 ≡ true → (refused (noTailRoom 1 (c .tail)) ≡ writeBit f c) × (f ≡ bitWritten f c b)
   bit-beyond l p = (rw (le-ltb 65535 (length f) l, p) refl, rw (le-ltb 65535 (length f) l, p) refl)
 
   pub bit-put : length f ≤ 65535 → beyondStart (length f) c 1 ≡ false → (accepted (record { head = c .head; tail = c .tail + 1 }) ≡ writeBit f c) × (putBit f (c .tail) (oneIf b) ≡ bitWritten f c b)

@@ -14,6 +14,7 @@ use Rattle.buffer_reader.specs.Reads.{takeBits, takeBit, listed, bytesWanted, f
 use Rattle.buffer_reader.specs.declared.Cursor.{Cursor}
 use Rattle.buffer_reader.proofs.Answers.{bits-taken, bit-taken}
 use Rattle.buffer_reader.proofs.Rooms.{wanted-holds, bit-room}
+use Rattle.buffer_reader.proofs.Tails.{tail-bit-there}
 use Rattle.buffer_writer.specs.Writes.{putField, putBit, withTop, oneIf}
 use Rattle.buffer_writer.proofs.Bytes.{with-top-other}
 use Rattle.buffer_writer.proofs.Places.{put-field-length, put-field-same, put-length, put-same, byte-put}
@@ -45,8 +46,9 @@ module _ (f : List ℕ) (c : Cursor) (short : length f ≤ 65535) where
       one-is false = refl
 
 -- a head byte's top n bits, and a tail bit of that byte below them
-pub top-keeps : (f : List ℕ) (h v n j : ℕ) → h < length f → length f - 1 - j / 8 ≡ h → j % 8 < 8 - n → tailBit (set f h (withTop (getD f h 0) v n)) j ≡ tailBit f j
+pub top-keeps : (f : List ℕ) (h v n j : ℕ) → j / 8 < length f → length f - 1 - j / 8 ≡ h → j % 8 < 8 - n → tailBit (set f h (withTop (getD f h 0) v n)) j ≡ tailBit f j
 top-keeps f h v n j inside at low =
     byte-put f h (withTop (getD f h 0) v n) j inside at ∙
     with-top-other (getD f h 0) v n (j % 8) low ∙
-    ap (λ (p : ℕ). getD f p 0 / 2 ^ (j % 8) % 2) (sym at)
+    ap (λ (p : ℕ). getD f p 0 / 2 ^ (j % 8) % 2) (sym at) ∙
+    sym (tail-bit-there f j inside)

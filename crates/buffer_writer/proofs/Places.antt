@@ -8,14 +8,10 @@ use native.Mathlib.Omega.{arith}
 use native.Mathlib.Decide.{decLt, ℕ-discrete}
 use lib.ListN.{length, getD, set, length-set}
 use lib.Seq.{getD-set-same, getD-set-other, set-out}
-use Rattle.buffer_reader.specs.Tail.{tailByte, tailBit, field}
-use Rattle.buffer_reader.proofs.Tails.{field-none, field-more, field-agrees, cut-more}
+use Rattle.buffer_reader.specs.Tail.{tailByte, tailBit, field, Bytes}
+use Rattle.buffer_reader.proofs.Tails.{field-none, field-more, field-agrees, cut-more, tail-byte-there, tail-byte-fits}
 use Rattle.buffer_writer.specs.Writes.{withBit, putBit, putField}
 use Rattle.buffer_writer.proofs.Bytes.{with-bit-lt, with-bit-same, with-bit-other}
-
--- each element is a byte
-abbrev pub Bytes : List ℕ → Type 0
-Bytes f = (i : ℕ) → getD f i 0 < 256
 
 set-bytes : (f : List ℕ) (p v : ℕ) → v < 256 → Bytes f → Bytes (set f p v)
 set-bytes f p v h bytes i = go (ℕ-discrete i p) (decLt p (length f))
@@ -30,8 +26,10 @@ pub byte-kept : (f : List ℕ) (p v j : ℕ) → (length f - 1 - j / 8 ≡ p →
 byte-kept f p v j ne = rw (length-set f p v, getD-set-other f p (length f - 1 - j / 8) v 0 ne) refl
 
 -- the bits of the byte at the place are those of what was put there
-pub byte-put : (f : List ℕ) (p v j : ℕ) → p < length f → length f - 1 - j / 8 ≡ p → tailBit (set f p v) j ≡ v / 2 ^ (j % 8) % 2
-byte-put f p v j h e = rw (length-set f p v, e, getD-set-same f p v 0 h) refl
+pub byte-put : (f : List ℕ) (p v j : ℕ) → j / 8 < length f → length f - 1 - j / 8 ≡ p → tailBit (set f p v) j ≡ v / 2 ^ (j % 8) % 2
+byte-put f p v j h e =
+    let there : j / 8 < length (set f p v) = rw (length-set f p v) h in
+    rw (tail-byte-there (set f p v) (j / 8) there, length-set f p v, e, getD-set-same f p v 0 (omega arith)) refl
 
 module _ (f : List ℕ) (i bit : ℕ) (inside : i < 8 * length f) (b : bit < 2) where
   pub put-same : tailBit (putBit f i bit) i ≡ bit
@@ -49,7 +47,7 @@ module _ (f : List ℕ) (i bit : ℕ) (inside : i < 8 * length f) (b : bit < 2) 
 
   pub put-bytes : Bytes f → Bytes (putBit f i bit)
   put-bytes bytes =
-      set-bytes f (length f - 1 - i / 8) _ (with-bit-lt (tailByte f (i / 8)) (i % 8) bit (bytes (length f - 1 - i / 8)) (omega arith) b) bytes
+      set-bytes f (length f - 1 - i / 8) _ (with-bit-lt (tailByte f (i / 8)) (i % 8) bit (tail-byte-fits f (i / 8) bytes) (omega arith) b) bytes
 
 pub put-length : (f : List ℕ) (i bit : ℕ) → length (putBit f i bit) ≡ length f
 put-length f i bit = length-set f (length f - 1 - i / 8) (withBit (tailByte f (i / 8)) (i % 8) bit)

@@ -41,7 +41,7 @@ abbrev pub writeField : List ℕ → Cursor → ℕ → Answer Cursor
 writeField f c n =
     tooLong f
     (given (not (listed n)) (widthNotListed n)
-    (given (beyondStart (length f) c n) (noTailRoom n (c .tail % 8))
+    (given (beyondStart (length f) c n) (noTailRoom n (c .tail))
     (accepted (record { head = c .head; tail = c .tail + n }))))
 
 abbrev pub fieldWritten : List ℕ → Cursor → ℕ → ℕ → List ℕ
@@ -51,7 +51,7 @@ fieldWritten f c v n = unlessRefused (writeField f c n) f (putField f (c .tail) 
 abbrev pub writeBit : List ℕ → Cursor → Answer Cursor
 writeBit f c =
     tooLong f
-    (given (beyondStart (length f) c 1) (noTailRoom 1 (c .tail % 8))
+    (given (beyondStart (length f) c 1) (noTailRoom 1 (c .tail))
     (accepted (record { head = c .head; tail = c .tail + 1 })))
 
 abbrev pub bitWritten : List ℕ → Cursor → Bool → List ℕ

@@ -21,14 +21,14 @@ pub fn write_uint_backward(buf: &mut [u8], at: Cursor, val: u32, num_bits: usize
 {
     let len = buf.len();
     if 65535 < len {
-        return Written::Refused(BufferError::TooLong(len));
+        return Written::Refused(BufferError::WrongLength(len));
     }
     if !buffer_reader::inner::listed(num_bits) {
         return Written::Refused(BufferError::WidthNotListed(num_bits));
     }
     let place = at.tail;
     if inner::beyond(8 * len, place, num_bits) {
-        return Written::Refused(BufferError::NoTailRoom(num_bits, place % 8));
+        return Written::Refused(buffer_reader::inner::no_tail_room(num_bits, place));
     }
     inner::put_field(buf, place, val, num_bits);
     Written::At(Cursor {
@@ -44,11 +44,11 @@ pub fn write_bool_backward(buf: &mut [u8], at: Cursor, bit: bool) -> Written
 {
     let len = buf.len();
     if 65535 < len {
-        return Written::Refused(BufferError::TooLong(len));
+        return Written::Refused(BufferError::WrongLength(len));
     }
     let place = at.tail;
     if inner::beyond(8 * len, place, 1) {
-        return Written::Refused(BufferError::NoTailRoom(1, place % 8));
+        return Written::Refused(buffer_reader::inner::no_tail_room(1, place));
     }
     inner::put_bit(buf, place, tail::one_if(bit));
     Written::At(Cursor {
@@ -65,7 +65,7 @@ pub fn write_byte_forward(buf: &mut [u8], at: Cursor, val: u8) -> Written
     let len = buf.len();
     let head = at.head;
     if 65535 < len {
-        return Written::Refused(BufferError::TooLong(len));
+        return Written::Refused(BufferError::WrongLength(len));
     }
     if len <= head {
         return Written::Refused(BufferError::PastEnd(head));
@@ -85,7 +85,7 @@ pub fn write_uint_forward(buf: &mut [u8], at: Cursor, val: u8, num_bits: usize) 
     let len = buf.len();
     let head = at.head;
     if 65535 < len {
-        return Written::Refused(BufferError::TooLong(len));
+        return Written::Refused(BufferError::WrongLength(len));
     }
     if num_bits == 0 {
         return Written::Refused(BufferError::WidthNotListed(num_bits));

@@ -2,15 +2,16 @@
 -- Assumes nothing.
 use mathlib.Core.Path.{_≡_, refl}
 use mathlib.Core.List.{map}
-use Rattle.common.specs.Tables.{total}
+use Rattle.common.specs.Tables.{allAtLeast, total}
 use Rattle.common.specs.Flat.{tabulate}
 use Rattle.buffer_reader.specs.Tail.{field}
 use Rattle.buffer_writer.specs.Writes.{putField}
+use Rattle.side_info.specs.Layout.{putFields}
 use Rattle.side_info.specs.Reader.{leastWidth}
 use Rattle.common.specs.Last.{lastBelow, floorLog2}
 use Rattle.range_decoder.specs.Decoder.{owner}
 use Rattle.cases.specs.Starred.{Case, starred}
 
 pub all-as-stated : map (λ (c : Case). c .defined) starred ≡ map (λ (c : Case). c .stated) starred
-unfolding total tabulate putField field leastWidth lastBelow floorLog2 owner
+unfolding allAtLeast total tabulate putField putFields field leastWidth lastBelow floorLog2 owner
 all-as-stated = refl

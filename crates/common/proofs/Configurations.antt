@@ -7,9 +7,9 @@ use native.Mathlib.Omega.{arith}
 use borrow.Author.Tests.{leb-true, le-leb, not-false}
 use lib.Dec.{leb}
 use Rattle.common.proofs.Bools.{and-left, and-right}
-use Rattle.common.specs.Configuration.{configurationPasses, ne, frameLength, linesOf}
-use Rattle.common.specs.Reply.{Reply, accepted, refused, outsideLimits}
-use Rattle.common.proofs.Replies.{no-refusal, accepted-same, given-split}
+use Rattle.common.specs.Configuration.{configurationPasses, ne, lengthPasses, linesOf, frameLines}
+use Rattle.common.specs.Reply.{Reply, accepted, refused, given, outsideLimits, wrongLength}
+use Rattle.common.proofs.Replies.{no-refusal, accepted-same, given-split, then-split}
 use Rattle.common.specs.declared.configuration.Configuration.{Configuration}
 
 -- within the first two limits the third decides
@@ -61,6 +61,23 @@ lines-unknown c e = go (configurationPasses c) refl
     go true p = absurd (no-refusal (sym (lines-passed c p) ∙ e))
     go false p = p
 
+-- a call on a frame: what it is behind both checks, and what is so where it got that far
+pub frame-passed : (c : Configuration) (bytes : ℕ) → configurationPasses c ≡ true → lengthPasses bytes ≡ true → frameLines c bytes ≡ accepted (ne (c .duration) (c .«fs_ind»))
+frame-passed c bytes e l = rw (e, l) refl
+
+pub frame-outside : (c : Configuration) (bytes : ℕ) → configurationPasses c ≡ false → frameLines c bytes ≡ refused outsideLimits
+frame-outside c bytes e = rw e refl
+
+pub frame-length : (c : Configuration) (bytes : ℕ) → configurationPasses c ≡ true → lengthPasses bytes ≡ false → frameLines c bytes ≡ refused (wrongLength bytes)
+frame-length c bytes e l = rw (e, l) refl
+
+pub frame-known : (c : Configuration) (bytes : ℕ) {n : ℕ} → frameLines c bytes ≡ accepted n → (configurationPasses c ≡ true) × (lengthPasses bytes ≡ true) × (n ≡ ne (c .duration) (c .«fs_ind»))
+frame-known c bytes e =
+    let s = then-split (linesOf c) (λ n. given (not (lengthPasses bytes)) (wrongLength bytes) (accepted n)) e in
+    let k = lines-known c (s .1) in
+    let g = given-split (not (lengthPasses bytes)) (wrongLength bytes) (accepted (s .0)) (s .2) in
+    (k .0, not-false (lengthPasses bytes) (g .0), sym (accepted-same (g .1)) ∙ k .1)
+
 -- 60 to 400 lines
 pub ne-range : (c : Configuration) → configurationPasses c ≡ true → (60 ≤ ne (c .duration) (c .«fs_ind»)) × (ne (c .duration) (c .«fs_ind») ≤ 400)
 ne-range c e = within (c .duration) (c .«fs_ind») (duration-limit c e) (fs-limit c e)
@@ -71,6 +88,6 @@ ne-range c e = within (c .duration) (c .«fs_ind») (duration-limit c e) (fs-lim
     within (suc (suc d)) fs p q = absurd (omega arith)
 
 -- a frame of a length that passes has 20 to 400 bytes
-pub length-limits : (bytes : ℕ) → frameLength bytes ≡ true → (20 ≤ bytes) × (bytes ≤ 400)
+pub length-limits : (bytes : ℕ) → lengthPasses bytes ≡ true → (20 ≤ bytes) × (bytes ≤ 400)
 length-limits bytes e =
     (leb-true 20 bytes (and-left (leb 20 bytes) (leb bytes 400) e), leb-true bytes 400 (and-right (leb 20 bytes) (leb bytes 400) e))

@@ -1,12 +1,12 @@
--- The laws of a row's cumulatives: each entry adds itself, they rise in a row that passes, and end at 1,024. And of the rows of
--- a part that passes: each of them passes. Assumes nothing.
+-- The laws of a row's cumulatives: each entry adds itself, they rise in a row that passes, and end at 1,024, so each symbol has a
+-- share of the 1,024 and of any range. And of the rows of a part that passes: each of them passes. Assumes nothing.
 use Prim.Native.Nat.{ℕ, zero, suc, _+_, _-_, _*_, _≤_, _<_}
 use mathlib.Core.Path.{_≡_, refl, ap, _∙_}
 use mathlib.Core.Bool.{true}
 use mathlib.Core.List.{List, [], _∷_, _++_}
 use native.Mathlib.Omega.{arith}
 use native.Mathlib.Numerals.{add-one}
-use native.Mathlib.Nat.{zero-add, add-zero, add-assoc, zero-mul, suc-mul, add-comm}
+use native.Mathlib.Nat.{zero-add, add-zero, add-assoc, zero-mul, suc-mul, add-comm, mul-add, mul-comm, mul-le-mul-left}
 use borrow.Author.Tests.{eqb-true, leb-true}
 use lib.Dec.{leb, eqb}
 use lib.ListN.{length, getD, take, drop}
@@ -42,6 +42,18 @@ unfolding total
 filled [] e = absurd (omega arith)
 filled (x ∷ xs) e = omega arith
 
+-- a cumulative and a frequency that a row which passes may give
+pub record Shares (cum freq : ℕ) : Type 0 where
+  pub some : 1 ≤ freq
+  pub most : cum + freq ≤ 1024
+
+-- of a range that has 1,024 parts of r: no symbol's part ends above them
+pub share-within : (r cum freq : ℕ) → cum + freq ≤ 1024 → r * cum + r * freq ≤ 1024 * r
+share-within r cum freq most =
+    let all : r * (cum + freq) ≤ r * 1024 = mul-le-mul-left r most in
+    let parts : r * cum + r * freq ≤ r * 1024 = rw mul-add at all in
+    omega (arith, mul-comm r 1024)
+
 module _ (row : List ℕ) (passed : rowPasses row ≡ true) where
   pub frequency-positive : (k : ℕ) → k < length row → 1 ≤ getD row k 0
   frequency-positive k h = at-least 1 row k (and-left (allAtLeast 1 row) (eqb (total row) 1024) passed) h
@@ -74,6 +86,18 @@ module _ (row : List ℕ) (passed : rowPasses row ≡ true) where
       let e : k + (length row - k) ≡ length row = omega arith in
       let v : cumulative row k + (length row - k) ≤ cumulative row (length row) = rw e at u in
       omega (arith, cumulative-total)
+
+  -- each symbol has a share of the 1,024
+  pub row-shares : (k : ℕ) → k < length row → Shares (cumulative row k) (getD row k 0)
+  row-shares k there =
+      record {
+        some = frequency-positive k there;
+        most = rw (← cumulative-next row k there) (cumulative-bound (k + 1) (omega arith));
+      }
+
+  -- and so of a range
+  pub part-within : (r k : ℕ) → k < length row → r * cumulative row k + r * getD row k 0 ≤ 1024 * r
+  part-within r k there = share-within r (cumulative row k) (getD row k 0) (row-shares k there .most)
 
   -- a row that passes is not empty
   pub row-filled : 0 < length row

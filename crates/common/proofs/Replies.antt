@@ -2,8 +2,9 @@
 -- every check on the way.
 -- Assumes nothing.
 use mathlib.Core.Path.{_≡_, refl, sym, ap, subst}
-use mathlib.Core.Bool.{Bool, true, false}
-use Rattle.common.specs.Reply.{Step, Reply, Answer, accepted, refused, given, andThen, within}
+use mathlib.Core.Bool.{Bool, true, false, _&&_}
+use lib.Dec.{leb}
+use Rattle.common.specs.Reply.{Step, Reply, Answer, accepted, refused, given, andThen, inStep, within}
 
 module _ {A : Type 0} where
   abbrev isAccepted : Answer A → Type 0
@@ -43,3 +44,10 @@ given-split false r a e = (refl, e)
 pub within-split : {A : Type 0} (s : Step) (a : Answer A) {y : A} → within s a ≡ accepted y → a ≡ accepted y
 within-split s (accepted x) e = e
 within-split s (refused r) e = absurd (no-refusal (sym e))
+
+-- 9 to 11 get the step, with number and values as they were; any other refusal is left as it is
+pub in-step-given : (s : Step) (r : Reply) → (leb 9 (r .number) && leb (r .number) 11) ≡ true → inStep s r ≡ record { number = r .number; values = r .values; step = s }
+in-step-given s r e = rw e refl
+
+pub in-step-kept : (s : Step) (r : Reply) → (leb 9 (r .number) && leb (r .number) 11) ≡ false → inStep s r ≡ r
+in-step-kept s r e = rw e refl

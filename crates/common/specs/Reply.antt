@@ -1,7 +1,8 @@
 -- The numbered replies of document 01, "Numbered replies": a refusal is its number with its values, and the step that met it.
 -- Every enum of an answer has a `replyOf` that says what it is here, and contracts speak by that.
-use Prim.Native.Nat.{ℕ}
-use mathlib.Core.Bool.{Bool, true, false}
+use Prim.Native.Nat.{ℕ, _%_}
+use mathlib.Core.Bool.{Bool, true, false, cond, _&&_}
+use lib.Dec.{leb}
 use mathlib.Core.List.{List, [], _∷_}
 
 -- "side, start, order (TNS, f), coef (f,k), symbol or bit (pair, level)": the step of the reader that met a refusal 9 to 11
@@ -35,10 +36,14 @@ abbrev pub andThen : {A B : Type 0} → Answer A → (A → Answer B) → Answer
 andThen (accepted a) next = next a
 andThen (refused r) next = refused r
 
--- "sit inside the step that met them"
+-- "Refusals 9 to 11 while reading sit inside the step that met them"; any other is as it was
+abbrev pub inStep : Step → Reply → Reply
+inStep place r =
+    cond (leb 9 (r .number) && leb (r .number) 11) (record { number = r .number; values = r .values; step = place }) r
+
 abbrev pub within : {A : Type 0} → Step → Answer A → Answer A
 within place (accepted a) = accepted a
-within place (refused r) = refused (record { number = r .number; values = r .values; step = place })
+within place (refused r) = refused (inStep place r)
 
 -- "all lent memory keeps its contents": what it holds behind an answer, by what it held and what would be written
 abbrev pub unlessRefused : {A : Type 0} → Answer A → List ℕ → List ℕ → List ℕ
@@ -80,9 +85,9 @@ jointTooLarge25 joint = reply 7 (joint ∷ [])
 abbrev pub jointTooLarge24 : ℕ → Reply
 jointTooLarge24 joint = reply 8 (joint ∷ [])
 
--- 9: no tail room
+-- 9: no tail room; "width, bit index", of a field at a tail place
 abbrev pub noTailRoom : ℕ → ℕ → Reply
-noTailRoom width bitIndex = reply 9 (width ∷ bitIndex ∷ [])
+noTailRoom width tail = reply 9 (width ∷ (tail % 8) ∷ [])
 
 -- 10: head byte, or the first three, past the end
 abbrev pub headPastEnd : ℕ → Reply

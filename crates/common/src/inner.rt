@@ -2,7 +2,7 @@
 ghost use mathlib.Core.Path.{_≡_};
 ghost use Prim.Native.Nat.{_^_, _≤_, _<_};
 ghost use Rattle.common.specs.Configuration as Configuration;
-ghost use Rattle.common.specs.Configuration.{frameLength};
+ghost use Rattle.common.specs.Configuration.{lengthPasses};
 ghost use Rattle.common.specs.Last.{floorLog2};
 
 // The number of encoded lines of a configuration that passes.
@@ -18,8 +18,8 @@ pub fn ne(duration: usize, fs_ind: usize) -> usize
 }
 
 // Whether a frame may have so many bytes.
-pub fn frame_length(bytes: usize) -> bool
-    ensures { λ r. ⌜ r ≡ frameLength bytes ⌝ }
+pub fn length_passes(bytes: usize) -> bool
+    ensures { λ r. ⌜ r ≡ lengthPasses bytes ⌝ }
 {
     if bytes < 20 {
         return false;

@@ -11,7 +11,7 @@ use lib.Dec.{leb, ltb, eqb}
 use lib.ListN.{length, getD}
 use Rattle.common.specs.Tables.{allAtMost, lookupPasses}
 use Rattle.common.proofs.Bools.{and-left, and-right, by-test}
-use Rattle.contexts.specs.Contexts.{rateFlag, lookupStart, lookupIndex, rowOf, trace, nextContext, shifted, escapes, contextBehind}
+use Rattle.contexts.specs.Contexts.{rateFlag, lookupStart, rowOf, trace, nextContext, shifted, escapes, contextBehind}
 use Rattle.contexts.proofs.Escapes.{escapes-law}
 
 pub rate-high : (bits fs : ℕ) → 160 + 160 * fs < bits → rateFlag bits fs ≡ 512
@@ -36,7 +36,7 @@ module _ (c rate ne line : ℕ) where
   start-low p q =
       by-test (ltb (ne / 2) line) (λ t. rw t (omega arith)) (λ f. rw f (omega arith))
 
-pub index-low : (t level : ℕ) → t < 1024 → lookupIndex t level < 4096
+pub index-low : (t level : ℕ) → t < 1024 → t + 1024 * min level 3 < 4096
 index-low t level h = omega arith
 
 at-most : (m : ℕ) (xs : List ℕ) (k : ℕ) → allAtMost m xs ≡ true → getD xs k 0 ≤ m
@@ -50,7 +50,7 @@ module _ (lookup : List ℕ) (passed : lookupPasses lookup ≡ true) where
   lookup-length = eqb-true (length lookup) 4096 (and-left (eqb (length lookup) 4096) (allAtMost 63 lookup) passed)
 
   pub row-low : (t level : ℕ) → rowOf lookup t level ≤ 63
-  row-low t level = at-most 63 lookup (lookupIndex t level) (and-right (eqb (length lookup) 4096) (allAtMost 63 lookup) passed)
+  row-low t level = at-most 63 lookup (t + 1024 * min level 3) (and-right (eqb (length lookup) 4096) (allAtMost 63 lookup) passed)
 
 -- the trace of a pair, case by case, and that it is at most 15
 pub trace-low : (a b level : ℕ) → level ≤ 1 → trace a b level ≡ 1 + (a + b) * (level + 1)

@@ -14,7 +14,7 @@ use lib.Signed.{ltZ, nonNeg}
 use mir.Syntax.{w16, w32, w64}
 use mir.Val.{Fits, SFits, toZ, ofZ}
 use mir.Facts.{toZ-ofZ}
-use Rattle.contexts.specs.Contexts.{magnitude, magnitudes}
+use Rattle.contexts.specs.Contexts.{magnitudes}
 
 module _ (z : ℤ) (fits : SFits w16 z) where
   -- what the code holds of a line
@@ -31,12 +31,12 @@ module _ (z : ℤ) (fits : SFits w16 z) where
   widened-same = rw (toZ-ofZ fits, toZ-ofZ wider) refl
 
 -- at most 32,768
-pub magnitude-most : (z : ℤ) → SFits w16 z → magnitude z ≤ 32768
+pub magnitude-most : (z : ℤ) → SFits w16 z → natAbs z ≤ 32768
 magnitude-most (pos n) f = omega (arith, f .sfits)
 magnitude-most (negsuc n) f = omega (arith, f .sfits)
 
 -- and at most 32,767 but for -32768
-pub magnitude-below : (z : ℤ) → SFits w16 z → (z ≡ negsuc 32767 → ⊥) → magnitude z ≤ 32767
+pub magnitude-below : (z : ℤ) → SFits w16 z → (z ≡ negsuc 32767 → ⊥) → natAbs z ≤ 32767
 magnitude-below (pos n) f h = omega (arith, f .sfits)
 magnitude-below (negsuc n) f h =
     let other : n ≡ 32767 → ⊥ = λ e. h (ap negsuc e) in
@@ -46,7 +46,7 @@ magnitude-below (negsuc n) f h =
 pub record Negated (z : ℤ) : Type 0 where
   pub there : SFits w32 (pos 0 -ℤ z)
   pub sign : T (nonNeg (pos 0 -ℤ z))
-  pub size : natAbs (pos 0 -ℤ z) ≡ magnitude z
+  pub size : natAbs (pos 0 -ℤ z) ≡ natAbs z
 
 pub negated : (z : ℤ) → SFits w16 z → ltZ z (pos 0) ≡ true → Negated z
 negated (pos n) f e = absurd (omega (arith, ltb-true n 0 e))
@@ -58,12 +58,12 @@ pub not-negative : (z : ℤ) → ltZ z (pos 0) ≡ false → T (nonNeg z)
 not-negative (pos n) e = tt
 not-negative (negsuc n) e = absurd (true≢false e)
 
-pub magnitude-fits : (z : ℤ) → SFits w16 z → Fits w64 (magnitude z)
+pub magnitude-fits : (z : ℤ) → SFits w16 z → Fits w64 (natAbs z)
 magnitude-fits z f = record { fits = omega (arith, magnitude-most z f) }
 
 -- the magnitude at a place
-pub magnitude-read : (lines : List ℤ) (k : ℕ) → getD (magnitudes lines) k 0 ≡ magnitude (getD lines k (pos 0))
-magnitude-read lines k = List·getD-map magnitude lines k (pos 0)
+pub magnitude-read : (lines : List ℤ) (k : ℕ) → getD (magnitudes lines) k 0 ≡ natAbs (getD lines k (pos 0))
+magnitude-read lines k = List·getD-map natAbs lines k (pos 0)
 
 pub magnitudes-length : (lines : List ℤ) → length (magnitudes lines) ≡ length lines
-magnitudes-length lines = length-map lines magnitude
+magnitudes-length lines = length-map lines natAbs

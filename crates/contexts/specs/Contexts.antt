@@ -12,28 +12,16 @@ use Rattle.contexts.specs.First.{firstFrom}
 abbrev pub rateFlag : ℕ → ℕ → ℕ
 rateFlag bits fs = cond (ltb (160 + 160 * fs) bits) 512 0
 
--- "+256 past ne/2": the number of the pair's first line is above half of the lines
-abbrev pub pastHalf : ℕ → ℕ → ℕ
-pastHalf ne line = cond (ltb (ne / 2) line) 256 0
-
--- t: where the lookup of a pair begins, by the context before it
+-- t: where the lookup of a pair begins, by the context before it; "+256 past ne/2", by the number of the pair's first line
 abbrev pub lookupStart : ℕ → ℕ → ℕ → ℕ → ℕ
-lookupStart c rate ne line = c + rate + pastHalf ne line
+lookupStart c rate ne line = c + rate + cond (ltb (ne / 2) line) 256 0
 
--- the lookup has a part for each of the levels 0 to 3, and the last serves all above
-abbrev pub lookupIndex : ℕ → ℕ → ℕ
-lookupIndex t level = t + 1024 * min level 3
-
--- the row that codes a symbol of the pair at a level
+-- the row that codes a symbol of the pair: the lookup has a part for each of the levels 0 to 3, and the last serves all above
 abbrev pub rowOf : List ℕ → ℕ → ℕ → ℕ
-rowOf lookup t level = getD lookup (lookupIndex t level) 0
-
--- the magnitude of a line
-abbrev pub magnitude : ℤ → ℕ
-magnitude line = natAbs line
+rowOf lookup t level = getD lookup (t + 1024 * min level 3) 0
 
 abbrev pub magnitudes : List ℤ → List ℕ
-magnitudes lines = map magnitude lines
+magnitudes lines = map natAbs lines
 
 -- what is left of a magnitude n escapes on
 abbrev pub shifted : ℕ → ℕ → ℕ

@@ -2,6 +2,7 @@
 ghost use mathlib.Core.Path.{_≡_};
 ghost use mathlib.Core.Bool.{true};
 ghost use Prim.Native.Nat.{_+_, _≤_, _<_, min};
+ghost use lib.IntN.{natAbs};
 ghost use lib.ListN.{length, getD};
 ghost use Rattle.common.specs.Tables.{lookupPasses};
 ghost use Rattle.contexts.specs.Contexts.{rateFlag, lookupStart, rowOf, fitsSymbol, symbolFrom, nextContext, pairSymbol, contextBehind};
@@ -44,7 +45,7 @@ fn cut(level: usize) -> usize
 
 // The magnitude of a line, -32768 included.
 pub fn magnitude(line: i16) -> usize
-    ensures { λ r. ⌜ r ≡ Contexts.magnitude line ⌝ }
+    ensures { λ r. ⌜ r ≡ natAbs line ⌝ }
 {
     let wide = line as i32;
     if wide < 0 {

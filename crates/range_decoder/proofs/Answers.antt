@@ -9,13 +9,14 @@ use borrow.Author.Tests.{lt-ltb, le-ltb, le-leb, lt-leb}
 use lib.ListN.{length, getD}
 use Rattle.common.specs.Reply.{refused, outsideLimits, wrongLength, tablesFail, lowBeyondLimit}
 use Rattle.common.specs.Tables.{rowPasses, cumulative}
+use Rattle.common.proofs.Cumulatives.{part-within}
 use Rattle.buffer_reader.specs.Steps.{next, found}
 use Rattle.buffer_reader.specs.declared.Cursor.{Cursor}
-use Rattle.range_decoder.specs.Decoder.{Below, unitOf, owner, narrowed, renormalised, Decoded, symbolStep, rangePasses, decodeSymbol}
+use Rattle.range_decoder.specs.Decoder.{unitOf, owner, narrowed, renormalised, Decoded, symbolStep, rangePasses, decodeSymbol}
+use Rattle.range_decoder.specs.Private.{Below}
 use Rattle.range_decoder.specs.declared.DecoderState.{DecoderState}
 use Rattle.range_decoder.proofs.Owners.{owner-owns}
 use Rattle.range_decoder.proofs.Renormal.{range-limits}
-use Rattle.range_decoder.proofs.Shares.{row-shares, shares-within}
 
 -- what the search finds: the owner, where its part begins, and how wide that is
 pub record Found (s : DecoderState) (row : List ℕ) (k base width : ℕ) : Type 0 where
@@ -37,7 +38,7 @@ module _ (s : DecoderState) (row : List ℕ) where
       let there : k < length row = rw (g .symbol) (o .there) in
       let starts : unitOf (s .range) * cumulative row k ≤ s .low = rw (g .symbol) (o .starts) in
       let ends : s .low < unitOf (s .range) * cumulative row k + unitOf (s .range) * getD row k 0 = rw (g .symbol) (o .ends) in
-      let most = shares-within (unitOf (s .range)) (cumulative row k) (getD row k 0) (row-shares row passed k there) in
+      let most = part-within row passed (unitOf (s .range)) k there in
       let range : s .range ≤ 0xFFFFFF = range-limits (s .range) within .1 in
       (omega (arith, g .base-is), record { most = omega (arith, g .width-is); below = omega (arith, g .base-is, g .width-is) })
 

@@ -13,7 +13,8 @@ use Rattle.common.proofs.Replies.{accepted-same, then-split, given-split}
 use Rattle.buffer_reader.specs.Reads.{takeByte}
 use Rattle.buffer_reader.specs.Steps.{next, found}
 use Rattle.buffer_reader.specs.declared.Cursor.{Cursor}
-use Rattle.range_decoder.specs.Decoder.{appendByte, Below}
+use Rattle.range_decoder.specs.Decoder.{appendByte}
+use Rattle.range_decoder.specs.Private.{Below}
 use Rattle.range_decoder.specs.declared.DecoderState.{DecoderState}
 
 -- the range is wide enough: nothing is read

@@ -11,15 +11,10 @@ use borrow.Author.Tests.{le-leb, lt-leb, ltb-true, ltb-false}
 use lib.Dec.{leb, ltb}
 use lib.ListN.{length, getD}
 use Rattle.common.specs.Tables.{rowPasses, cumulative}
-use Rattle.common.proofs.Cumulatives.{cumulative-start, cumulative-next, cumulative-rises, cumulative-bound, cumulative-total}
+use Rattle.common.proofs.Cumulatives.{cumulative-start, cumulative-next, cumulative-rises, cumulative-total, part-within}
 use Rattle.common.proofs.Lasts.{last-is}
 use Rattle.range_decoder.specs.Decoder.{owner}
-
--- symbol k owns low: its part of the range is from r*cumulative up to below the next one's
-pub record Owns (r low : ℕ) (row : List ℕ) (k : ℕ) : Type 0 where
-  pub there : k < length row
-  pub starts : r * cumulative row k ≤ low
-  pub ends : low < r * cumulative row k + r * getD row k 0
+use Rattle.range_decoder.specs.Theory.{Owns}
 
 -- a symbol's part ends where the next one's begins
 pub part-end : (r : ℕ) (row : List ℕ) (k : ℕ) → k < length row → r * cumulative row (k + 1) ≡ r * cumulative row k + r * getD row k 0
@@ -57,8 +52,7 @@ module _ (row : List ℕ) (passed : rowPasses row ≡ true) where
   -- what a symbol owns is below 1024*r
   pub owns-limit : (r low k : ℕ) → Owns r low row k → low < 1024 * r
   owns-limit r low k o =
-      let most : r * cumulative row (k + 1) ≤ r * 1024 = mul-le-mul-left r (cumulative-bound row passed (k + 1) (omega (arith, o .there))) in
-      omega (arith, part-end r row k (o .there), o .ends)
+      omega (arith, part-within row passed r k (o .there), o .ends)
 
   -- from a symbol whose part begins at or below low, with n symbols from there on: one of them owns it
   some-owns : (r low : ℕ) → low < 1024 * r → (n k : ℕ) → k + n ≡ length row → r * cumulative row k ≤ low → (j : ℕ) × Owns r low row j

@@ -11,6 +11,7 @@ use lib.ListN.{length, getD}
 use Rattle.common.specs.Reply.{Answer, accepted, lowBeyondLimit}
 use Rattle.common.specs.Tables.{rowPasses, cumulative}
 use Rattle.common.proofs.Bools.{and-left, and-right, and-both}
+use Rattle.common.proofs.Cumulatives.{row-shares}
 use Rattle.common.proofs.Replies.{accepted-same, then-split, given-split}
 use Rattle.buffer_reader.specs.Reads.{takeByte}
 use Rattle.buffer_reader.specs.Steps.{next, found}
@@ -18,7 +19,7 @@ use Rattle.buffer_reader.specs.declared.Cursor.{Cursor}
 use Rattle.range_decoder.specs.Decoder.{unitOf, owner, narrowed, appendByte, renormalised, Decoded, symbolStep, rangePasses}
 use Rattle.range_decoder.specs.declared.DecoderState.{DecoderState}
 use Rattle.range_decoder.proofs.Owners.{owner-owns}
-use Rattle.range_decoder.proofs.Shares.{row-shares, shares-given}
+use Rattle.range_decoder.proofs.Shares.{shares-given}
 
 -- a range within its limits
 pub range-limits : (range : ℕ) → rangePasses range ≡ true → (0x10000 ≤ range) × (range ≤ 0xFFFFFF)
@@ -65,6 +66,6 @@ step-range s row f c r d within passed e =
     let p = then-split (renormalised (narrowed (unitOf n) (s .low) row k) f c) _ (g .1) in
     let own = shares-given n (cumulative row k) (getD row k 0) (limits .0) (row-shares row passed k there) in
     let b =
-    renormalised-range (narrowed (unitOf n) (s .low) row k) f c (p .0 .0) (p .0 .1) (own .least) (omega (arith, own .short)) (p .1) in
+    renormalised-range (narrowed (unitOf n) (s .low) row k) f c (p .0 .0) (p .0 .1) (own .least) (omega (arith, own .most)) (p .1) in
     let same : r .state .range ≡ p .0 .0 .range = sym (ap (λ (x : Decoded × Cursor). x .0 .state .range) (accepted-same (p .2))) in
     rw same (and-both (leb 0x10000 (p .0 .0 .range)) (leb (p .0 .0 .range) 0xFFFFFF) (le-leb 0x10000 _ (b .0)) (le-leb _ 0xFFFFFF (b .1)))

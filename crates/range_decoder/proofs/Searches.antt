@@ -9,10 +9,9 @@ use native.Mathlib.Omega.{arith}
 use native.Mathlib.Nat.{mul-comm, mul-zero, eq-or-lt-of-le}
 use lib.ListN.{length, getD}
 use Rattle.common.specs.Tables.{rowPasses, cumulative}
-use Rattle.common.proofs.Cumulatives.{cumulative-start, cumulative-total}
+use Rattle.common.proofs.Cumulatives.{cumulative-start, cumulative-total, part-within}
 use Rattle.range_decoder.specs.Decoder.{owner}
 use Rattle.range_decoder.proofs.Owners.{part-end, owns-owner}
-use Rattle.range_decoder.proofs.Shares.{row-shares, shares-within}
 
 -- where the search stands: a symbol's part that does not begin above low
 pub record Candidate (row : List ℕ) (r low symbol base width : ℕ) : Type 0 where
@@ -22,9 +21,6 @@ pub record Candidate (row : List ℕ) (r low symbol base width : ℕ) : Type 0 w
   pub starts : base ≤ low
 
 module _ (row : List ℕ) (passed : rowPasses row ≡ true) (r low : ℕ) where
-  pub part-within : (k : ℕ) → k < length row → r * cumulative row k + r * getD row k 0 ≤ 1024 * r
-  part-within k h = shares-within r (cumulative row k) (getD row k 0) (row-shares row passed k h)
-
   pub first-candidate : (width : ℕ) → 0 < length row → width ≡ r * getD row 0 0 → Candidate row r low 0 0 width
   first-candidate width some e =
       record {
@@ -39,7 +35,7 @@ module _ (row : List ℕ) (passed : rowPasses row ≡ true) (r low : ℕ) where
   candidate-end k base width c = omega (arith, part-end r row k (c .there), c .base-is, c .width-is)
 
   pub candidate-within : (k base width : ℕ) → Candidate row r low k base width → base + width ≤ 1024 * r
-  candidate-within k base width c = omega (arith, part-within k (c .there), c .base-is, c .width-is)
+  candidate-within k base width c = omega (arith, part-within row passed r k (c .there), c .base-is, c .width-is)
 
   -- a part that ends at or below low is not the row's last
   pub next-there : (k base width : ℕ) → low < 1024 * r → Candidate row r low k base width → base + width ≤ low → k + 1 < length row

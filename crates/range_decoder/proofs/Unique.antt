@@ -5,7 +5,7 @@ use lib.Dec.{eqb}
 use lib.ListN.{getD}
 use Rattle.common.specs.Reply.{Reply, Answer, accepted, refused}
 use Rattle.common.proofs.Unique.{from-back}
-use Rattle.buffer_reader.specs.declared.BufferError.the-variants.{TooLong, WidthNotListed, NoTailRoom, PastEnd}
+use Rattle.buffer_reader.specs.declared.BufferError.the-variants.{WrongLength, WidthNotListed, NoTailRoom, PastEnd}
 use Rattle.buffer_reader.specs.declared.Cursor.{Cursor}
 use Rattle.buffer_reader.proofs.Unique.{errorBack}
 use Rattle.range_decoder.specs.Decoder.{Decoded, replyOf, startedOf, symbolOf}
@@ -28,7 +28,7 @@ unfolding codecBack errorBack
 codec-back OutsideLimits = refl
 codec-back RowFails = refl
 codec-back (LowBeyondLimit low limit) = refl
-codec-back (Buffer (TooLong n)) = refl
+codec-back (Buffer (WrongLength n)) = refl
 codec-back (Buffer (WidthNotListed n)) = refl
 codec-back (Buffer (NoTailRoom n b)) = refl
 codec-back (Buffer (PastEnd h)) = refl

@@ -1,6 +1,6 @@
 -- Document 01, "The coder", first paragraph: the decoder's start, and the symbol step on a row of any length that passes.
 -- Nothing here says how the symbol is found.
-use Prim.Native.Nat.{ℕ, _+_, _-_, _*_, _/_, _≤_, _<_}
+use Prim.Native.Nat.{ℕ, _+_, _-_, _*_, _/_}
 use mathlib.Core.Bool.{Bool, cond, not, _&&_}
 use mathlib.Core.List.{List}
 use lib.Dec.{leb, ltb}
@@ -19,8 +19,6 @@ use Rattle.range_decoder.specs.declared.Started.{Started}
 use Rattle.range_decoder.specs.declared.Started.the-variants.{At, Refused as StartRefused}
 use Rattle.range_decoder.specs.declared.SymbolRead.{SymbolRead}
 use Rattle.range_decoder.specs.declared.SymbolRead.the-variants.{Symbol, Refused as SymbolRefused}
-use Rattle.range_decoder.specs.declared.inner.Appended.{Appended}
-use Rattle.range_decoder.specs.declared.inner.Appended.the-variants.{Filled, Refused as AppendRefused}
 
 -- "Decoder start: low is three head bytes, range 0xFFFFFF"
 abbrev pub startDecoder : Reading DecoderState
@@ -38,11 +36,6 @@ owner r low row = lastBelow (λ k. leb (r * cumulative row k) low) (length row)
 abbrev pub narrowed : ℕ → ℕ → List ℕ → ℕ → DecoderState
 narrowed r low row k = record { low = low - r * cumulative row k; range = r * getD row k 0 }
 
--- what holds inside a step: low is below the range, and the range below 2^24
-pub record Below (s : DecoderState) : Type 0 where
-  pub most : s .range ≤ 0xFFFFFF
-  pub below : s .low < s .range
-
 -- "while range < 0x10000 append a byte": one turn of it
 abbrev pub appendByte : DecoderState → Reading DecoderState
 appendByte s =
@@ -59,12 +52,13 @@ pub record Decoded : Type 0 where
   pub symbol : ℕ
   pub state : DecoderState
 
--- "refused (11) exactly if low >= 1024r", and otherwise the owner, with its own part of the range
+-- "r = range >> 10; refused (11) exactly if low >= 1024r", and otherwise the owner, with its own part of the range
 abbrev pub symbolStep : DecoderState → List ℕ → Reading Decoded
 symbolStep s row =
-    refusing (leb (1024 * unitOf (s .range)) (s .low)) (lowBeyondLimit (s .low) (1024 * unitOf (s .range)))
-    (next (renormalised (narrowed (unitOf (s .range)) (s .low) row (owner (unitOf (s .range)) (s .low) row)))
-    (λ t. found (record { symbol = owner (unitOf (s .range)) (s .low) row; state = t })))
+    let r : ℕ = unitOf (s .range) in
+    let k : ℕ = owner r (s .low) row in
+    refusing (leb (1024 * r) (s .low)) (lowBeyondLimit (s .low) (1024 * r))
+    (next (renormalised (narrowed r (s .low) row k)) (λ t. found (record { symbol = k; state = t })))
 
 -- 1, "range of a lent decoder state (0x10000..0xFFFFFF)"
 abbrev pub rangePasses : ℕ → Bool
@@ -91,7 +85,3 @@ startedOf (StartRefused e) = refused (replyOf e)
 abbrev pub symbolOf : SymbolRead → Answer (Decoded × Cursor)
 symbolOf (Symbol k s c) = accepted (record { symbol = k; state = s }, c)
 symbolOf (SymbolRefused e) = refused (replyOf e)
-
-abbrev pub appendedOf : Appended → Answer (DecoderState × Cursor)
-appendedOf (Filled s c) = accepted (s, c)
-appendedOf (AppendRefused e) = refused (replyOf e)

@@ -1,1 +1,3 @@
 pub mod Decoder
+pub mod Theory
+pub mod Private

@@ -55,7 +55,7 @@ pub fn ac_decode(state: DecoderState, buf: &[u8], at: Cursor, row: &[u16]) -> Sy
     }
     let len = buf.len();
     if 65535 < len {
-        return SymbolRead::Refused(CodecError::Buffer(BufferError::TooLong(len)));
+        return SymbolRead::Refused(CodecError::Buffer(BufferError::WrongLength(len)));
     }
     if !common::tables::row_passes(row) {
         return SymbolRead::Refused(CodecError::RowFails);

@@ -9,40 +9,37 @@ use native.Mathlib.Omega.{arith}
 use native.Mathlib.Nat.{add-zero}
 use borrow.Author.Tests.{ltb-true, ltb-false, eqb-true, eqb-false}
 use lib.Dec.{ltb, eqb}
-use lib.ListN.{length, replicate, length-append, replicate-append-replicate}
+use lib.ListN.{replicate, length-append, replicate-append-replicate}
 use Rattle.common.proofs.Bools.{by-test, or-split, or-false, or-fails-second}
 use Rattle.range_decoder.specs.Decoder.{unitOf}
-use Rattle.range_encoder.specs.Digits.{numberFrom, number}
+use Rattle.range_encoder.specs.Encoder.{startEncoder, settles, shifted, shiftBytes, symbolAdded, withRange, turn, turnBytes, encoded, encodedBytes}
 use Rattle.range_encoder.specs.Interval.{Sent, cumulativeOf, frequencyOf, Interval, whole, part, widened, narrowedBy, behind}
-use Rattle.range_encoder.specs.Encoder.{startEncoder, shiftsOf, settles, shifted, shiftBytes, symbolAdded, withRange, turn, turnBytes, encoded, encodedBytes, Fits, Carries, Sound}
 use Rattle.range_encoder.specs.Runs.{Passes, AllPass, none, more, stateBehind, bytesBehind}
+use Rattle.range_encoder.specs.Digits.{numberFrom, number}
+use Rattle.range_encoder.specs.Theory.{heldDigits, Holds, Carried}
+use Rattle.range_encoder.specs.Private.{Fits, Carries, Sound}
 use Rattle.range_encoder.specs.declared.EncoderState.{EncoderState}
-use Rattle.range_decoder.proofs.Shares.{Shares, Given, shares-given}
+use Rattle.common.proofs.Cumulatives.{Shares}
+use Rattle.range_decoder.proofs.Shares.{Given, shares-given}
 use Rattle.range_encoder.proofs.Symbols.{symbol-shares, symbol-given}
 use Rattle.range_encoder.proofs.Numbers.{from-append, from-none, from-one, carry-through}
 use Rattle.range_encoder.proofs.Intervals.{two-turns}
 use Rattle.range_encoder.proofs.States.{shifts-shifted, out-shifted, fits-added, fits-turn, fits-encoded}
 
--- the digits that are held: the cache and the 0xFFs behind it
-abbrev pub heldDigits : EncoderState → List ℕ
-heldDigits s = replicate (s .held) (s .cache) ++ replicate (s .pending) 255
-
--- the bytes w are out, and with what the state holds they are the interval
-pub record Holds (w : List ℕ) (s : EncoderState) (i : Interval) : Type 0 where
-  pub range : s .range ≡ i .range
-  pub shifts : shiftsOf s ≡ i .shifts
-  pub sent : length w ≡ s .out
-  pub digits : (number (w ++ heldDigits s) + s .carry) * 0x1000000 + s .low ≡ i .base
-  -- no byte in the cache: none is out either, and at most 0xFFs wait
-  pub unsent : s .held ≡ 0 → w ≡ []
-
 -- at the start nothing is out and nothing is held
 pub holds-start : Holds [] startEncoder whole
 holds-start = record { range = refl; shifts = refl; sent = refl; digits = rw from-none refl; unsent = λ e. refl }
 
+-- where the interval reaches past 24 bits, a byte is in the cache
+pub end-held : (s : EncoderState) → Fits s → Carries s → 0x1000000 ≤ s .carry * 0x1000000 + s .low + s .range → s .held ≡ 1
+end-held s f c past =
+    by-test (eqb (s .held) 0)
+    (λ e. absurd (omega (arith, c .first (eqb-true (s .held) 0 e))))
+    (λ e. omega (arith, eqb-false (s .held) 0 e))
+
 -- a carry finds a byte in the cache that takes it: it is never lost, and never passes the first byte
 pub carry-kept : (s : EncoderState) → Fits s → Carries s → 0 < s .range → s .carry ≡ 1 → (s .held ≡ 1) × (s .cache < 255)
-carry-kept s f c pos e = omega arith
+carry-kept s f c pos e = (end-held s f c (omega arith), omega arith)
 
 -- what is held is not settled: the next byte is 0xFF, and no carry is there yet
 pub not-settled : (s : EncoderState) → Fits s → settles s ≡ false → (0xFF0000 ≤ s .low) × (s .carry ≡ 0)
@@ -61,12 +58,12 @@ end-settled s c short e =
 pub carries-shifted : (s : EncoderState) → Fits s → Carries s → s .range < 0x10000 → Carries (withRange (shifted s) (s .range * 256))
 carries-shifted s f c short =
     by-test (settles s)
-    (λ e. rw e (omega (arith, end-settled s c short e)))
-    (λ e. rw e (omega (arith, not-settled s f e)))
-
--- a shift leaves the range
-pub range-shifted : (s : EncoderState) → shifted s .range ≡ s .range
-range-shifted s = by-test (settles s) (λ e. rw e refl) (λ e. rw e refl)
+    (λ e.
+    let end = end-settled s c short e in
+    rw e (record { once = omega arith; kept = omega arith; first = λ z. absurd (omega arith) }))
+    (λ e.
+    let waits = not-settled s f e in
+    rw e (record { once = omega arith; kept = omega arith; first = λ z. omega (arith, c .first z) }))
 
 -- what is sent is what is held, and a carry: the cache takes it, and the 0xFFs behind become zeros
 number-sent : (a held cache carry pending : ℕ) → cache < 256 → carry ≤ 1 → (carry ≡ 1 → (held ≡ 1) × (cache < 255))
@@ -100,7 +97,7 @@ digits-waiting w held cache pending =
 pub holds-shifted : (w : List ℕ) (s : EncoderState) (i : Interval) → Fits s → Carries s → 0 < s .range → Holds w s i → Holds (w ++ shiftBytes s) (shifted s) (record { base = i .base * 256; range = i .range; shifts = i .shifts + 1 })
 holds-shifted w s i f c pos h =
     record {
-      range = range-shifted s ∙ h .range;
+      range = h .range;
       shifts = shifts-shifted s ∙ ap (λ (n : ℕ). n + 1) (h .shifts);
       sent = rw (length-append, h .sent) (sym (out-shifted s));
       digits = by-test (settles s)
@@ -121,7 +118,9 @@ added-exact s cum freq f c g =
 
 -- the end of the interval only falls, so a carry is bounded as before
 carries-added : (s : EncoderState) (cum freq : ℕ) → Fits s → Carries s → Given (s .range) cum freq → Carries (symbolAdded s cum freq)
-carries-added s cum freq f c g = omega (arith, added-exact s cum freq f c g)
+carries-added s cum freq f c g =
+    let exact = added-exact s cum freq f c g in
+    record { once = omega arith; kept = omega arith; first = λ z. omega (arith, c .first z) }
 
 -- a symbol's own part of the interval, in digits
 holds-added : (w : List ℕ) (s : EncoderState) (i : Interval) (x : Sent) → Sound s → Passes x → Holds w s i → Holds w (symbolAdded s (cumulativeOf x) (frequencyOf x)) (part i x)
@@ -206,7 +205,7 @@ holds-encoded w s i x d p h =
 
 -- every state on the way keeps the invariant
 pub sound-start : Sound startEncoder
-sound-start = record { fits = omega arith; range-least = omega arith; carries = omega arith }
+sound-start = record { fits = omega arith; range-least = omega arith; carries = record { once = omega arith; kept = omega arith; first = λ z. omega arith } }
 
 pub sound-behind : (s : EncoderState) (xs : List Sent) → Sound s → AllPass xs → Sound (stateBehind s xs)
 unfolding stateBehind
@@ -224,12 +223,7 @@ holds-behind w s i (x ∷ xs) d (more p ps) h =
     let bytes = encodedBytes s (cumulativeOf x) (frequencyOf x) in
     rw (← append-assoc) (holds-behind (w ++ bytes) next (narrowedBy i x) xs sound ps (holds-encoded w s i x d p h))
 
--- theorem 2, of a list: the bytes out, those held and the carry are the digits of the exact interval's base, and a carry that is
--- known has a byte in the cache that takes it
-pub record Carried (xs : List Sent) : Type 0 where
-  pub holds : Holds (bytesBehind startEncoder xs) (stateBehind startEncoder xs) (behind whole xs)
-  pub kept : stateBehind startEncoder xs .carry ≡ 1 → (stateBehind startEncoder xs .held ≡ 1) × (stateBehind startEncoder xs .cache < 255)
-
+-- theorem 2, of any symbols that pass
 pub carry-exact : (xs : List Sent) → AllPass xs → Carried xs
 carry-exact xs ps =
     let sound = sound-behind startEncoder xs sound-start ps in

@@ -9,16 +9,12 @@ use lib.Arith.{digits-div}
 use lib.ListN.{length, getD, take, drop, length-append, List·getD-append}
 use lib.Seq.{sets, sets-eq, length-sets, length-take-le, getD-append-add, getD-set-same, getD-set-other}
 use lib.Pow.{pow-pos, pow-add, shr-shr}
-use Rattle.buffer_writer.proofs.Places.{Bytes}
+use Rattle.buffer_reader.specs.Tail.{Bytes}
+use Rattle.range_encoder.specs.Finish.{withOwn}
 use Rattle.range_encoder.specs.Digits.{numberFrom, number, headNumber}
+use Rattle.range_encoder.specs.Theory.{ownNumber, Continues}
 use Rattle.buffer_writer.specs.Writes.{withTop}
-use Rattle.range_encoder.specs.Finish.{ownNumber, withOwn}
 use Rattle.range_encoder.proofs.Numbers.{head-none, head-more}
-
--- from place h on the frame has the whole bytes, and then the top bits of the last
-pub record Continues (f : List ℕ) (h : ℕ) (bytes : List ℕ) (last bits : ℕ) : Type 0 where
-  pub same : (j : ℕ) → j < length bytes → getD f (h + j) 0 ≡ getD bytes j 0
-  pub top : getD f (h + length bytes) 0 / 2 ^ (8 - bits) ≡ last / 2 ^ (8 - bits)
 
 -- bytes that a frame has from a place on are the next digits of its number
 pub head-from : (f : List ℕ) (h n : ℕ) (bytes : List ℕ) → ((j : ℕ) → j < length bytes → getD f (h + (n + j)) 0 ≡ getD bytes j 0) → headNumber f h (n + length bytes) ≡ numberFrom (headNumber f h n) bytes

@@ -15,21 +15,17 @@ use Rattle.buffer_reader.specs.Reads.{takeByte, threeAt}
 use Rattle.buffer_reader.specs.Steps.{next, found}
 use Rattle.buffer_reader.specs.declared.Cursor.{Cursor}
 use Rattle.buffer_reader.proofs.Answers.{byte-taken, three-taken}
-use Rattle.buffer_writer.proofs.Places.{Bytes}
-use Rattle.range_decoder.specs.Decoder.{unitOf, appendByte, renormalised, Decoded, symbolStep, startDecoder}
-use Rattle.range_decoder.specs.declared.DecoderState.{DecoderState}
-use Rattle.range_decoder.proofs.Owners.{Owns, owns-owner, owns-limit}
-use Rattle.range_encoder.specs.Digits.{headNumber}
+use Rattle.buffer_reader.specs.Tail.{Bytes}
+use Rattle.range_decoder.specs.Decoder.{unitOf, appendByte, renormalised, symbolStep, startDecoder}
+use Rattle.range_decoder.specs.Theory.{Owns}
+use Rattle.range_decoder.proofs.Owners.{owns-owner, owns-limit}
 use Rattle.range_encoder.specs.Interval.{Sent, cumulativeOf, Interval, whole, part, widened, narrowedBy, behind}
 use Rattle.range_encoder.specs.Runs.{Passes, AllPass, more, decodeAll}
+use Rattle.range_encoder.specs.Digits.{headNumber}
+use Rattle.range_encoder.specs.Theory.{Within, Inside, stateAt, cursorAt, decodedAs}
 use Rattle.range_encoder.proofs.Symbols.{symbol-given}
 use Rattle.range_encoder.proofs.Numbers.{head-more}
-use Rattle.range_encoder.proofs.Intervals.{Within, within-whole, within-narrowed}
-
--- the number of the frame's 3 + S head bytes lies in the interval
-pub record Inside (f : List ℕ) (h : ℕ) (i : Interval) : Type 0 where
-  pub low : i .base ≤ headNumber f h (3 + i .shifts)
-  pub high : headNumber f h (3 + i .shifts) < i .base + i .range
+use Rattle.range_encoder.proofs.Intervals.{within-whole, within-narrowed}
 
 -- the shifts only grow
 pub widened-shifts : (i : Interval) → i .shifts ≤ widened i .shifts
@@ -74,13 +70,6 @@ module _ (f : List ℕ) (h : ℕ) (bytes : Bytes f) where
   inside-behind i (x ∷ xs) within (more p ps) o =
       inside-before i x within p (inside-behind (narrowedBy i x) xs (within-narrowed i x within p) ps o)
 
--- the decoder's state and cursor that belong to an interval
-abbrev pub stateAt : List ℕ → ℕ → Interval → DecoderState
-stateAt f h i = record { low = headNumber f h (3 + i .shifts) - i .base; range = i .range }
-
-abbrev pub cursorAt : Cursor → Interval → Cursor
-cursorAt c i = record { head = c .head + 3 + i .shifts; tail = c .tail }
-
 module _ (f : List ℕ) (c : Cursor) (bytes : Bytes f) (size : length f ≤ 65535) where
   append-wider : (below : Bool) (i : Interval) → c .head + 3 + wider below i .shifts ≤ length f → i .base ≤ headNumber f (c .head) (3 + i .shifts) → cond below (next takeByte (λ byte. found (record { low = stateAt f (c .head) i .low * 256 + byte; range = i .range * 256 }))) (found (stateAt f (c .head) i)) f (cursorAt c i) ≡ accepted (stateAt f (c .head) (wider below i), cursorAt c (wider below i))
   append-wider true i room low =
@@ -111,12 +100,6 @@ decode-one f c i x bytes size p room o =
     record { there = p .symbol-there; starts = omega (arith, q .low); ends = omega (arith, q .low, q .high) } in
     let own : low - unit * cumulativeOf x ≡ stateAt f (c .head) (part i x) .low = omega arith in
     rw (lt-leb (1024 * unit) low (owns-limit (x .row) (p .row-passes) unit low (x .symbol) owns), owns-owner (x .row) (p .row-passes) unit low (x .symbol) owns, own, renormalised-widened f c bytes size (part i x) room o) refl
-
--- what is to be decoded, with the state behind each symbol
-unfoldable pub decodedAs : List ℕ → ℕ → Interval → List Sent → List Decoded
-decodedAs f h i [] = []
-decodedAs f h i (x ∷ xs) =
-    record { symbol = x .symbol; state = stateAt f h (narrowedBy i x) } ∷ decodedAs f h (narrowedBy i x) xs
 
 -- from any interval on
 pub decode-rest : (f : List ℕ) (c : Cursor) (i : Interval) (xs : List Sent) → Bytes f → length f ≤ 65535 → Within i → AllPass xs → c .head + 3 + behind i xs .shifts ≤ length f → Inside f (c .head) (behind i xs) → decodeAll (stateAt f (c .head) i) xs f (cursorAt c i) ≡ accepted (decodedAs f (c .head) i xs, cursorAt c (behind i xs))

@@ -1,18 +1,19 @@
 -- What the finish decides: low rounded up to a multiple of the last bit's step, which is the floor's power of two, or half of it
--- where a whole step from there would pass the interval's end. Assumes nothing.
+-- where a whole step from there would pass the interval's end. The step is mask + 1. Assumes nothing.
 use Prim.Native.Nat.{ℕ, suc, _+_, _-_, _*_, _/_, _%_, _^_, _≤_, _<_}
 use mathlib.Core.Path.{_≡_, refl, sym, ap, _∙_}
 use mathlib.Core.Bool.{Bool, true, false, cond}
 use native.Mathlib.Omega.{arith}
-use native.Mathlib.Nat.{zero-mul, suc-mul, lt-of-not-le, not-le-of-lt, lt-of-le-of-lt, lt-of-mul-lt-mul-right, mul-le-mul-right, mod-lt, mod-eq-of-lt, div-add-mod', div-eq-of-lt, div-mul-le-self, two-pow-succ, sub-add-cancel}
+use native.Mathlib.Nat.{zero-mul, suc-mul, mul-comm, lt-of-not-le, not-le-of-lt, lt-of-le-of-lt, lt-of-mul-lt-mul-right, mul-le-mul-right, mod-lt, mod-eq-of-lt, div-add-mod', div-eq-of-lt, div-mul-le-self, div-le-self, two-pow-succ, add-sub-of-le}
 use borrow.Author.Tests.{lt-ltb, le-ltb, ltb-true, ltb-false, eqb-true, eqb-false, leb-false}
 use lib.Dec.{ltb, leb, eqb}
-use lib.Pow.{pow-pos, pow-mono, pow-add}
+use lib.Arith.{digits-div}
+use lib.Pow.{pow-pos, pow-mono, pow-add, shr-shr}
 use Rattle.common.proofs.Bools.{by-test}
 use Rattle.common.specs.Last.{floorLog2}
 use Rattle.common.proofs.Lasts.{Log, log-law}
-use Rattle.range_encoder.specs.Encoder.{Fits, Carries, Sound}
-use Rattle.range_encoder.specs.Finish.{Ending, roundedUp, highOf, endingAt, endingBy, ending, ended}
+use Rattle.range_encoder.specs.Finish.{Ending, valOf, highIn, endingAt, ending, ended}
+use Rattle.range_encoder.specs.Private.{Fits, Carries, Sound, maskOf, closing}
 use Rattle.range_encoder.specs.declared.EncoderState.{EncoderState}
 
 -- the ending in exact numbers: `up` is the value with what it carried
@@ -43,148 +44,174 @@ log-range range least fits =
     let high : floorLog2 range < 24 = power-below (floorLog2 range) 24 (lt-of-le-of-lt (log .low) fits) in
     (omega arith, omega arith)
 
--- low rounded up to a multiple of q, a step that divides 0x1000000
-module _ (low q : ℕ) where
+-- so many steps of the last of b bits are 24 bits
+step-whole : (b : ℕ) → b ≤ 24 → 2 ^ b * 2 ^ (24 - b) ≡ 0x1000000
+step-whole b few = sym (pow-add 2 b (24 - b)) ∙ ap (λ (j : ℕ). 2 ^ j) (add-sub-of-le few)
+
+-- the mask of b bits and one is that step
+mask-step : (b : ℕ) → b ≤ 24 → maskOf b + 1 ≡ 2 ^ (24 - b)
+mask-step b few =
+    let left : ℕ = 2 ^ (24 - b) - 1 in
+    let one : suc left ≡ 2 ^ (24 - b) = omega (arith, pow-pos (24 - b)) in
+    let steps : suc left * 2 ^ b ≡ 0x1000000 = ap (λ (q : ℕ). q * 2 ^ b) one ∙ mul-comm (2 ^ (24 - b)) (2 ^ b) ∙ step-whole b few in
+    let rest : 2 ^ b - 1 < 2 ^ b = omega (arith, pow-pos b) in
+    let all : 0xFFFFFF ≡ left * 2 ^ b + (2 ^ b - 1) = omega (arith, pow-pos b, rw suc-mul at steps) in
+    let mask : maskOf b ≡ left = ap (λ (n : ℕ). n / 2 ^ b) all ∙ digits-div left rest in
+    omega arith
+
+-- one bit more halves it
+mask-half : (b : ℕ) → maskOf b / 2 ≡ maskOf (b + 1)
+mask-half b = shr-shr 0xFFFFFF b 1
+
+-- it has 24 bits
+pub mask-fits : (b : ℕ) → maskOf b < 0x1000000
+mask-fits b = omega (arith, div-le-self 0xFFFFFF (2 ^ b))
+
+-- low rounded up to a multiple of a step, mask + 1
+module _ (low mask : ℕ) where
   -- it is at or above low, by less than a step
-  rounded : 0 < q → low + (q - 1) < 0x1000000 → (low ≤ roundedUp low q) × (roundedUp low q ≤ low + (q - 1))
-  rounded pos l =
-      let split : (low + (q - 1)) / q * q + (low + (q - 1)) % q ≡ low + (q - 1) = div-add-mod' (low + (q - 1)) q in
-      let rest : (low + (q - 1)) % q < q = mod-lt (low + (q - 1)) pos in
+  rounded : low + mask < 0x1000000 → (low ≤ valOf low mask) × (valOf low mask ≤ low + mask)
+  rounded l =
+      let split : (low + mask) / (mask + 1) * (mask + 1) + (low + mask) % (mask + 1) ≡ low + mask = div-add-mod' (low + mask) (mask + 1) in
+      let rest : (low + mask) % (mask + 1) < mask + 1 = mod-lt (low + mask) (omega arith) in
       rw (mod-eq-of-lt l) (omega arith, omega arith)
 
   -- or it is 0x1000000, of which the carry is left out
-  rounded-past : low < 0x1000000 → q ≤ 0x1000000 → 0x1000000 ≤ low + (q - 1) → roundedUp low q ≡ 0
+  rounded-past : low < 0x1000000 → mask < 0x1000000 → 0x1000000 ≤ low + mask → valOf low mask ≡ 0
   rounded-past fits most l =
-      let small : (low + (q - 1)) % 0x1000000 < q = omega arith in
-      rw (div-eq-of-lt small) (zero-mul q)
+      let small : (low + mask) % 0x1000000 < mask + 1 = omega arith in
+      rw (div-eq-of-lt small) (zero-mul (mask + 1))
 
   -- in either case it has 24 bits
-  rounded-fits : roundedUp low q < 0x1000000
+  rounded-fits : valOf low mask < 0x1000000
   rounded-fits =
-      let most : roundedUp low q ≤ (low + (q - 1)) % 0x1000000 = div-mul-le-self ((low + (q - 1)) % 0x1000000) q in
+      let most : valOf low mask ≤ (low + mask) % 0x1000000 = div-mul-le-self ((low + mask) % 0x1000000) (mask + 1) in
       omega arith
 
   -- and a whole step from there on ends within them
-  rounded-room : (u : ℕ) → u * q ≡ 0x1000000 → roundedUp low q + q ≤ 0x1000000
+  rounded-room : (u : ℕ) → u * (mask + 1) ≡ 0x1000000 → valOf low mask + (mask + 1) ≤ 0x1000000
   rounded-room u whole =
-      let below : (low + (q - 1)) % 0x1000000 / q < u = lt-of-mul-lt-mul-right q (rw whole rounded-fits) in
-      let most : suc ((low + (q - 1)) % 0x1000000 / q) * q ≤ u * q = mul-le-mul-right q below in
+      let below : (low + mask) % 0x1000000 / (mask + 1) < u = lt-of-mul-lt-mul-right (mask + 1) (rw whole rounded-fits) in
+      let most : suc ((low + mask) % 0x1000000 / (mask + 1)) * (mask + 1) ≤ u * (mask + 1) = mul-le-mul-right (mask + 1) below in
       omega (arith, rw suc-mul at most)
 
--- so many steps are 24 bits
-step-whole : (k : ℕ) → k ≤ 24 → 2 ^ (24 - k) * 2 ^ k ≡ 0x1000000
-step-whole k h = sym (pow-add 2 (24 - k) k) ∙ ap (λ (j : ℕ). 2 ^ j) (sub-add-cancel h)
-
--- the exponent of the last bit's step is the floor n, or one less; and that bit is the last of 24 - k
-record Near (n k : ℕ) : Type 0 where
-  least : n ≤ k + 1
-  most : k ≤ n
-  small : k ≤ 23
-  back : 24 - (24 - k) ≡ k
+-- the bits are those that the floor leaves, n, or one more
+record Near (n b : ℕ) : Type 0 where
+  least : n ≤ b
+  most : b ≤ n + 1
+  some : 1 ≤ b
+  few : b ≤ 24
 
 -- what is chosen: a multiple of the step at or above low, with a whole step inside; or 0x1000000, whose step lies inside at the
 -- standard's reading
 data Chosen (reading : ℕ) (s : EncoderState) (n : ℕ) : Ending → Type 0 where
-  plain : (k times : ℕ) → Near n k → s .low ≤ times * 2 ^ k → times * 2 ^ k < 0x1000000 → times * 2 ^ k + 2 ^ k ≤ s .low + s .range → Chosen reading s n (record { bits = 24 - k; value = times * 2 ^ k; carry = s .carry })
-  past : (k : ℕ) → Near n k → 0x1000000 < s .low + s .range → (reading ≡ 1 → 0x1000000 + 2 ^ k ≤ s .low + s .range) → Chosen reading s n (record { bits = 24 - k; value = 0; carry = 1 })
+  plain : (b times q : ℕ) → Near n b → q ≡ 2 ^ (24 - b) → s .low ≤ times * q → times * q < 0x1000000 → times * q + q ≤ s .low + s .range → Chosen reading s n (record { bits = b; value = times * q; carry = s .carry })
+  past : (b : ℕ) → Near n b → 0x1000000 < s .low + s .range → (reading ≡ 1 → 0x1000000 + 2 ^ (24 - b) ≤ s .low + s .range) → Chosen reading s n (record { bits = b; value = 0; carry = 1 })
 
 -- a high of 24 bits is the same in both readings
-high-whole : (low range : ℕ) → low + range < 0x1000000 → (b : Bool) → cond b (low + range) ((low + range) % 0x1000000) ≡ low + range
-high-whole low range l true = refl
-high-whole low range l false = mod-eq-of-lt l
+high-whole : (high : ℕ) → high < 0x1000000 → (b : Bool) → cond b high (high % 0x1000000) ≡ high
+high-whole high l true = refl
+high-whole high l false = mod-eq-of-lt l
 
-module _ (reading : ℕ) (s : EncoderState) (n : ℕ) (fits : Fits s) (some : 1 ≤ n) (most : n ≤ 23) (log : 2 ^ n ≤ s .range) where
+module _ (reading : ℕ) (s : EncoderState) (n : ℕ) (fits : Fits s) (some : 1 ≤ n) (most : n ≤ 23) (log : 2 ^ (24 - n) ≤ s .range) where
   -- rounded to a step of which a whole one lies inside
-  chosen-at : (k : ℕ) → Near n k → (s .low + (2 ^ k - 1) < 0x1000000 → roundedUp (s .low) (2 ^ k) + 2 ^ k ≤ s .low + s .range) → (reading ≡ 1 → 0x1000000 ≤ s .low + (2 ^ k - 1) → 0x1000000 + 2 ^ k ≤ s .low + s .range) → Chosen reading s n (endingAt s (24 - k) (2 ^ k))
-  chosen-at k near within beyond =
-      let value = roundedUp (s .low) (2 ^ k) in
-      by-test (ltb (s .low + (2 ^ k - 1)) 0x1000000)
+  chosen-at : (b : ℕ) → Near n b → (s .low + maskOf b < 0x1000000 → valOf (s .low) (maskOf b) + (maskOf b + 1) ≤ s .low + s .range) → (reading ≡ 1 → 0x1000000 ≤ s .low + maskOf b → 0x1000000 + (maskOf b + 1) ≤ s .low + s .range) → Chosen reading s n (endingAt s b (valOf (s .low) (maskOf b)))
+  chosen-at b near within beyond =
+      let value = valOf (s .low) (maskOf b) in
+      let step = mask-step b (near .few) in
+      by-test (ltb (s .low + maskOf b) 0x1000000)
       (λ e.
-      let l = ltb-true (s .low + (2 ^ k - 1)) 0x1000000 e in
-      let least = rounded (s .low) (2 ^ k) (pow-pos k) l .0 in
+      let l = ltb-true (s .low + maskOf b) 0x1000000 e in
+      let least = rounded (s .low) (maskOf b) l .0 in
       rw (le-ltb value (s .low) least)
-      (plain k ((s .low + (2 ^ k - 1)) % 0x1000000 / 2 ^ k) near least (rounded-fits (s .low) (2 ^ k)) (within l)))
+      (plain b ((s .low + maskOf b) % 0x1000000 / (maskOf b + 1)) (maskOf b + 1) near step least (rounded-fits (s .low) (maskOf b)) (within l)))
       (λ e.
-      let l = ltb-false (s .low + (2 ^ k - 1)) 0x1000000 e in
-      let pos : 0 < 2 ^ k = pow-pos k in
-      let short : 2 ^ k ≤ 2 ^ n = pow-mono (near .most) in
-      let zeroed : value ≡ 0 = rounded-past (s .low) (2 ^ k) (fits .low-fits) (omega arith) l in
-      rw (lt-ltb value (s .low) (omega arith), zeroed) (past k near (omega arith) (λ r. beyond r l)))
+      let l = ltb-false (s .low + maskOf b) 0x1000000 e in
+      let short : 2 ^ (24 - b) ≤ 2 ^ (24 - n) = pow-mono (omega (arith, near .least)) in
+      let zeroed : value ≡ 0 = rounded-past (s .low) (maskOf b) (fits .low-fits) (mask-fits b) l in
+      rw (lt-ltb value (s .low) (omega (arith, mask-fits b)), zeroed) (past b near (omega arith) (λ r. omega (arith, beyond r l))))
 
-  -- half the floor's power lies inside wherever it begins
-  chosen-half : Chosen reading s n (endingAt s (25 - n) (2 ^ (n - 1)))
+  -- half the floor's step lies inside wherever it begins
+  chosen-half : Chosen reading s n (endingAt s (n + 1) (valOf (s .low) (maskOf n / 2)))
   chosen-half =
-      let exponent : suc (n - 1) ≡ n = omega arith in
-      let halves : 2 ^ n ≡ 2 ^ (n - 1) + 2 ^ (n - 1) = rw exponent at (two-pow-succ (n - 1)) in
-      let pos : 0 < 2 ^ (n - 1) = pow-pos (n - 1) in
-      let bits : 25 - n ≡ 24 - (n - 1) = omega arith in
-      rw bits
-      (chosen-at (n - 1) (omega arith) (λ l. omega (arith, rounded (s .low) (2 ^ (n - 1)) pos l)) (λ r l. omega arith))
+      let exponent : suc (24 - (n + 1)) ≡ 24 - n = omega arith in
+      let halves : 2 ^ (24 - n) ≡ 2 ^ (24 - (n + 1)) + 2 ^ (24 - (n + 1)) = rw exponent at (two-pow-succ (24 - (n + 1))) in
+      let step = mask-step (n + 1) (omega arith) in
+      rw (mask-half n)
+      (chosen-at (n + 1) (omega arith) (λ l. omega (arith, rounded (s .low) (maskOf (n + 1)) l)) (λ r l. omega arith))
 
-  -- the floor's power itself: the test says that it lies inside, or 0x1000000 stands between its step and the interval's end
-  chosen-by : Chosen reading s n (endingBy reading s n)
-  chosen-by =
-      let pos : 0 < 2 ^ n = pow-pos n in
-      let top = (s .low + (2 ^ n - 1)) / 0x1000000 in
-      let end = (s .low + s .range) / 0x1000000 in
-      let value = roundedUp (s .low) (2 ^ n) in
-      by-test (eqb top end)
-      (λ e. by-test (leb (highOf reading s) (value + (2 ^ n - 1)))
+  -- the floor's step itself: the test says that it lies inside, or 0x1000000 stands between it and the interval's end
+  chosen-by : 24 - floorLog2 (s .range) ≡ n → Chosen reading s n (ending reading s)
+  chosen-by is =
+      let mask = maskOf n in
+      let step = mask-step n (omega arith) in
+      let over1 = (s .low + mask) / 0x1000000 in
+      let high = s .low + s .range in
+      let over2 = high / 0x1000000 in
+      let value = valOf (s .low) mask in
+      rw is
+      (by-test (eqb over1 over2)
+      (λ e. by-test (leb (highIn reading high) (value + mask))
       (λ f. rw (e, f) chosen-half)
       (λ f.
-      let same = eqb-true top end e in
-      let over = leb-false (highOf reading s) (value + (2 ^ n - 1)) f in
-      let masked : reading ≡ 1 → highOf reading s ≡ (s .low + s .range) % 0x1000000 = λ r. rw r refl in
+      let same = eqb-true over1 over2 e in
+      let over = leb-false (highIn reading high) (value + mask) f in
+      let masked : reading ≡ 1 → highIn reading high ≡ high % 0x1000000 = λ r. rw r refl in
       rw (e, f)
       (chosen-at n (omega arith)
-      (λ l. omega (arith, high-whole (s .low) (s .range) (omega arith) (eqb reading 0)))
-      (λ r l. omega (arith, masked r, rounded-past (s .low) (2 ^ n) (fits .low-fits) (omega arith) l)))))
+      (λ l. omega (arith, high-whole high (omega arith) (eqb reading 0)))
+      (λ r l. omega (arith, masked r, rounded-past (s .low) mask (fits .low-fits) (mask-fits n) l)))))
       (λ e.
-      let other = eqb-false top end e in
-      let around = rounded (s .low) (2 ^ n) pos (omega arith) in
-      let room = rounded-room (s .low) (2 ^ n) (2 ^ (24 - n)) (step-whole n (omega arith)) in
+      let other = eqb-false over1 over2 e in
+      let around = rounded (s .low) mask (omega arith) in
+      let room = rounded-room (s .low) mask (2 ^ n) (rw step (step-whole n (omega arith))) in
       rw e
-      (plain n ((s .low + (2 ^ n - 1)) % 0x1000000 / 2 ^ n) (omega arith) (around .0) (rounded-fits (s .low) (2 ^ n)) (omega arith)))
+      (plain n ((s .low + mask) % 0x1000000 / (mask + 1)) (mask + 1) (omega arith) step (around .0) (rounded-fits (s .low) mask) (omega arith))))
 
 -- what either reading chooses
-chosen : (reading : ℕ) (s : EncoderState) → Sound s → Chosen reading s (floorLog2 (s .range)) (ending reading s)
+chosen : (reading : ℕ) (s : EncoderState) → Sound s → Chosen reading s (24 - floorLog2 (s .range)) (ending reading s)
 chosen reading s sound =
     let limits = log-range (s .range) (sound .range-least) (sound .fits .range-fits) in
     let log = log-law (s .range) (omega arith) (omega arith) in
-    chosen-by reading s (floorLog2 (s .range)) (sound .fits) (omega arith) (limits .1) (log .low)
+    let back : 24 - (24 - floorLog2 (s .range)) ≡ floorLog2 (s .range) = omega arith in
+    chosen-by reading s (24 - floorLog2 (s .range)) (sound .fits) (omega arith) (omega arith) (rw back (log .low)) refl
 
 module _ (s : EncoderState) (sound : Sound s) where
-  chosen-ended : {reading : ℕ} {e : Ending} → Chosen reading s (floorLog2 (s .range)) e → Ended s e
-  chosen-ended (plain k times near low fits room) =
+  logs : (16 ≤ floorLog2 (s .range)) × (floorLog2 (s .range) ≤ 23)
+  logs = log-range (s .range) (sound .range-least) (sound .fits .range-fits)
+
+  chosen-ended : {reading : ℕ} {e : Ending} → Chosen reading s (24 - floorLog2 (s .range)) e → Ended s e
+  chosen-ended (plain b times q near step low fits room) =
       record {
-        bits-least = omega arith;
-        bits-most = omega arith;
+        bits-least = omega (arith, near .least);
+        bits-most = omega (arith, near .most, logs);
         times = times;
-        step = rw (near .back) refl;
+        step = ap (λ (k : ℕ). times * k) step;
         value-fits = fits;
         carry-most = sound .fits .carry-most;
       }
-  chosen-ended (past k near high room) =
+  chosen-ended (past b near high room) =
       record {
-        bits-least = omega arith;
-        bits-most = omega arith;
+        bits-least = omega (arith, near .least);
+        bits-most = omega (arith, near .most, logs);
         times = 0;
-        step = sym (zero-mul (2 ^ (24 - (24 - k))));
+        step = sym (zero-mul (2 ^ (24 - b)));
         value-fits = omega arith;
         carry-most = omega arith;
       }
 
-  chosen-exact : {e : Ending} → Chosen 1 s (floorLog2 (s .range)) e → Exact s e
-  chosen-exact (plain k times near low fits room) =
-      record { up = times * 2 ^ k; carried = refl; low-most = low; inside = rw (near .back) room }
-  chosen-exact (past k near high room) =
-      record { up = 0x1000000; carried = omega arith; low-most = omega arith; inside = rw (near .back) (room refl) }
+  chosen-exact : {e : Ending} → Chosen 1 s (24 - floorLog2 (s .range)) e → Exact s e
+  chosen-exact (plain b times q near step low fits room) =
+      record { up = times * q; carried = refl; low-most = low; inside = rw (← step) room }
+  chosen-exact (past b near high room) =
+      record { up = 0x1000000; carried = omega arith; low-most = omega arith; inside = room refl }
 
-  chosen-carries : {reading : ℕ} {e : Ending} → Chosen reading s (floorLog2 (s .range)) e → Carries (ended s e)
-  chosen-carries (plain k times near low fits room) = rw (near .back) (omega arith)
-  chosen-carries (past k near high room) =
-      let short : 2 ^ k ≤ 2 ^ 23 = pow-mono {i = k} {j = 23} (near .small) in
-      rw (near .back) (omega arith)
+  chosen-carries : {reading : ℕ} {e : Ending} → Chosen reading s (24 - floorLog2 (s .range)) e → Carries (closing s e)
+  chosen-carries (plain b times q near step low fits room) =
+      rw (← step) (record { once = omega arith; kept = omega arith; first = λ z. omega (arith, sound .carries .first z) })
+  chosen-carries (past b near high room) =
+      let short : 2 ^ (24 - b) ≤ 2 ^ 23 = pow-mono {i = 24 - b} {j = 23} (omega (arith, near .some)) in
+      record { once = omega arith; kept = omega arith; first = λ z. absurd (omega (arith, sound .carries .first z)) }
 
 -- 24 bits less the floor, or one more; and a value that ends with the last of them
 pub ending-ended : (reading : ℕ) (s : EncoderState) → Sound s → Ended s (ending reading s)
@@ -195,15 +222,15 @@ pub ending-exact : (s : EncoderState) → Sound s → Exact s (ending 1 s)
 ending-exact s sound = chosen-exact s sound (chosen 1 s sound)
 
 -- the state that is sent still bounds what it carries
-pub ending-carries : (reading : ℕ) (s : EncoderState) → Sound s → Carries (ended s (ending reading s))
+pub ending-carries : (reading : ℕ) (s : EncoderState) → Sound s → Carries (closing s (ending reading s))
 ending-carries reading s sound = chosen-carries s sound (chosen reading s sound)
 
-ended-fits : (s : EncoderState) (e : Ending) → Sound s → Ended s e → Fits (ended s e)
+ended-fits : (s : EncoderState) (e : Ending) → Sound s → Ended s e → (Fits (ended s e)) × (Fits (closing s e))
 ended-fits s e sound ends =
     let limits = log-range (s .range) (sound .range-least) (sound .fits .range-fits) in
     let short : 2 ^ (24 - e .bits) ≤ 2 ^ 23 = pow-mono {i = 24 - e .bits} {j = 23} (omega arith) in
-    omega arith
+    (omega arith, omega arith)
 
 -- the state that is sent fits its places
-pub ending-fits : (reading : ℕ) (s : EncoderState) → Sound s → Fits (ended s (ending reading s))
+pub ending-fits : (reading : ℕ) (s : EncoderState) → Sound s → (Fits (ended s (ending reading s))) × (Fits (closing s (ending reading s)))
 ending-fits reading s sound = ended-fits s (ending reading s) sound (ending-ended reading s sound)

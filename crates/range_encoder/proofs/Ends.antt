@@ -1,32 +1,21 @@
--- What the ending is, case by case of its two tests, by the step q and the value that the code has. Assumes nothing.
-use Prim.Native.Nat.{ℕ, _+_, _-_, _/_, _^_, _≤_, _<_}
-use mathlib.Core.Path.{_≡_, refl, ap, _∙_}
-use borrow.Author.Tests.{eq-eqb, ne-eqb, le-leb, lt-leb}
-use Rattle.range_encoder.specs.Finish.{roundedUp, highOf, endingAt, endingBy}
+-- What the ending is, case by case of its two tests, by the logarithm and the value that the code has. Assumes nothing.
+use Prim.Native.Nat.{ℕ, _+_, _-_, _/_}
+use mathlib.Core.Path.{_≡_, refl}
+use mathlib.Core.Bool.{cond}
+use borrow.Author.Tests.{eq-eqb, ne-eqb}
+use lib.Dec.{leb}
+use Rattle.common.specs.Last.{floorLog2}
+use Rattle.range_encoder.specs.Finish.{valOf, highIn, endingAt, ending}
+use Rattle.range_encoder.specs.Private.{maskOf}
 use Rattle.range_encoder.specs.declared.EncoderState.{EncoderState}
 
-module _ (reading : ℕ) (s : EncoderState) (n q value : ℕ) (step : q ≡ 2 ^ n) (rounded : value ≡ roundedUp (s .low) q) where
-  rounded-by : value ≡ roundedUp (s .low) (2 ^ n)
-  rounded-by = rounded ∙ ap (roundedUp (s .low)) step
-
+module _ (reading : ℕ) (s : EncoderState) (log value : ℕ) (floor : log ≡ floorLog2 (s .range)) (rounded : value ≡ valOf (s .low) (maskOf (24 - log))) where
   -- the interval's end passes 2^24 and the rounding does not: it stands as it is
-  pub ends-apart : ((s .low + (q - 1)) / 0x1000000 ≡ (s .low + s .range) / 0x1000000 → ⊥) → endingBy reading s n ≡ record { bits = 24 - n; value = value; carry = s .carry }
-  ends-apart e =
-      let apart : (s .low + (2 ^ n - 1)) / 0x1000000 ≡ (s .low + s .range) / 0x1000000 → ⊥ = rw step at e in
-      rw (ne-eqb ((s .low + (2 ^ n - 1)) / 0x1000000) ((s .low + s .range) / 0x1000000) apart, rounded-by) refl
+  pub ends-apart : ((s .low + maskOf (24 - log)) / 0x1000000 ≡ (s .low + s .range) / 0x1000000 → ⊥) → ending reading s ≡ record { bits = 24 - log; value = value; carry = s .carry }
+  ends-apart apart =
+      rw (← floor, ne-eqb ((s .low + maskOf (24 - log)) / 0x1000000) ((s .low + s .range) / 0x1000000) apart, rounded) refl
 
-  module _ (same : (s .low + (q - 1)) / 0x1000000 ≡ (s .low + s .range) / 0x1000000) where
-    same-by : (s .low + (2 ^ n - 1)) / 0x1000000 ≡ (s .low + s .range) / 0x1000000
-    same-by = rw step at same
-
-    -- the last continuation of the bits stays below the end
-    pub ends-short : value + (q - 1) < highOf reading s → endingBy reading s n ≡ endingAt s (24 - n) q
-    ends-short l =
-        let below : roundedUp (s .low) (2 ^ n) + (2 ^ n - 1) < highOf reading s = rw (rounded-by, step) at l in
-        rw (eq-eqb ((s .low + (2 ^ n - 1)) / 0x1000000) ((s .low + s .range) / 0x1000000) same-by, lt-leb (highOf reading s) (roundedUp (s .low) (2 ^ n) + (2 ^ n - 1)) below, step) refl
-
-    -- otherwise one bit more
-    pub ends-long : highOf reading s ≤ value + (q - 1) → endingBy reading s n ≡ endingAt s (25 - n) (2 ^ (n - 1))
-    ends-long l =
-        let above : highOf reading s ≤ roundedUp (s .low) (2 ^ n) + (2 ^ n - 1) = rw (rounded-by, step) at l in
-        rw (eq-eqb ((s .low + (2 ^ n - 1)) / 0x1000000) ((s .low + s .range) / 0x1000000) same-by, le-leb (highOf reading s) (roundedUp (s .low) (2 ^ n) + (2 ^ n - 1)) above) refl
+  -- otherwise the comparison with high decides: where the last continuation of the bits stays below it they suffice, and else one more
+  pub ends-same : (high : ℕ) → (s .low + maskOf (24 - log)) / 0x1000000 ≡ (s .low + s .range) / 0x1000000 → high ≡ highIn reading (s .low + s .range) → ending reading s ≡ cond (leb high (value + maskOf (24 - log))) (endingAt s (24 - log + 1) (valOf (s .low) (maskOf (24 - log) / 2))) (endingAt s (24 - log) value)
+  ends-same high same masked =
+      rw (← floor, eq-eqb ((s .low + maskOf (24 - log)) / 0x1000000) ((s .low + s .range) / 0x1000000) same, ← rounded, ← masked) refl

@@ -12,15 +12,17 @@ use lib.Pow.{pow-pos, pow-add}
 use lib.ListN.{length, length-append, length-replicate}
 use Rattle.common.specs.Last.{floorLog2}
 use Rattle.common.proofs.Bools.{by-test}
+use Rattle.range_encoder.specs.Encoder.{startEncoder, shiftsOf, settles, shifted, shiftBytes, reservedOf, withRange}
+use Rattle.range_encoder.specs.Finish.{Ending, ending, ended, pushed, pushedBytes, lastBits, heldBytes, lastByte, finishState, finishBytes, finishLast, finishBits}
+use Rattle.range_encoder.specs.Interval.{Sent, Interval, whole, behind}
+use Rattle.range_encoder.specs.Runs.{AllPass, stateBehind, bytesBehind, ownBits, ownLength}
 use Rattle.range_encoder.specs.Digits.{number}
-use Rattle.range_encoder.specs.Interval.{Sent, Interval, whole, behind, reservedBits}
-use Rattle.range_encoder.specs.Encoder.{startEncoder, shiftsOf, settles, shifted, shiftBytes, reservedOf, Fits, Carries, Sound}
-use Rattle.range_encoder.specs.Finish.{Ending, ending, ended, pushed, pushedBytes, lastBits, heldBytes, lastByte, finishBytes, finishLast, finishBits, ownNumber}
-use Rattle.range_encoder.specs.Runs.{AllPass, stateBehind, bytesBehind, ownBytes, ownLast, ownBits, ownLength}
+use Rattle.range_encoder.specs.Theory.{heldDigits, Holds, ownNumber, Finishing}
+use Rattle.range_encoder.specs.Private.{Fits, Carries, Sound, closing}
 use Rattle.range_encoder.specs.declared.EncoderState.{EncoderState}
 use Rattle.range_encoder.proofs.Numbers.{from-append, from-one}
 use Rattle.range_encoder.proofs.States.{fits-shifted, shifts-shifted, out-shifted}
-use Rattle.range_encoder.proofs.Carry.{heldDigits, Holds, not-settled, digits-waiting, carries-shifted, holds-shifted, sound-start, sound-behind, carry-exact}
+use Rattle.range_encoder.proofs.Carry.{end-held, not-settled, digits-waiting, carries-shifted, holds-shifted, sound-start, sound-behind, carry-exact}
 use Rattle.range_encoder.proofs.Endings.{Exact, log-range, ending-ended, ending-exact, ending-fits, ending-carries}
 
 -- a state that is sent: so many bits of its low are its own, and its range is what they leave open
@@ -34,12 +36,12 @@ record Closes (t : EncoderState) (bits : ℕ) : Type 0 where
   step : t .low ≡ times * 2 ^ (24 - bits)
 
 -- the finish's state is one, in either reading
-closes : (reading : ℕ) (s : EncoderState) → Sound s → Closes (ended s (ending reading s)) (ending reading s .bits)
+closes : (reading : ℕ) (s : EncoderState) → Sound s → Closes (closing s (ending reading s)) (ending reading s .bits)
 closes reading s sound =
     let e = ending-ended reading s sound in
     let limits = log-range (s .range) (sound .range-least) (sound .fits .range-fits) in
     record {
-      fits = ending-fits reading s sound;
+      fits = ending-fits reading s sound .1;
       carries = ending-carries reading s sound;
       some = omega (arith, e .bits-least);
       most = omega (arith, e .bits-most);
@@ -84,7 +86,7 @@ shift-waiting u b times e fits carries most range step =
     let some : 0 < 2 ^ (8 - b) = pow-pos (8 - b) in
     rw e
     (record {
-      held = omega arith;
+      held = end-held u fits carries (omega arith);
       low = omega arith;
       carry = waits .1;
       whole = λ l. omega (arith, odd times (8 - b) (omega arith));
@@ -99,14 +101,10 @@ shift-closed u b times fits carries most range step =
     (λ e. shift-settled u b times e (fits .low-fits) step)
     (λ e. shift-waiting u b times e fits carries most range step)
 
--- a shift leaves the low bytes of low, one byte up
-low-shifted : (s : EncoderState) → shifted s .low ≡ s .low * 256 % 0x1000000
-low-shifted s = by-test (settles s) (λ e. rw e refl) (λ e. rw e refl)
-
 -- two shifts, for nine bits: behind the first only the ninth is left in low, so the second settles
 shifts-closed : (u : EncoderState) (times : ℕ) → u .low ≡ times * 0x8000 → Closed (shifted (shifted u)) 1
 shifts-closed u times step =
-    let ninth : shifted u .low ≡ times % 2 * 128 * 0x10000 = low-shifted u ∙ omega arith in
+    let ninth : shifted u .low ≡ times % 2 * 128 * 0x10000 = omega arith in
     let settled : settles (shifted u) ≡ true = rw (lt-ltb (shifted u .low) 0xFF0000 (omega arith)) refl in
     shift-settled (shifted u) 1 (times % 2) settled (omega arith) ninth
 
@@ -192,8 +190,8 @@ module _ (w : List ℕ) (t : EncoderState) (i : Interval) (fits : Fits t) (carri
   number-twice : t .range ≡ 0x8000 → Closed (shifted (shifted t)) 1 → number ((w ++ (shiftBytes t ++ shiftBytes (shifted t))) ++ heldDigits (shifted (shifted t))) * 0x8000 ≡ i .base * 128
   number-twice range c =
       let one = holds-shifted w t i fits carries some h in
-      let same : shifted t .range ≡ t .range = one .range ∙ sym (h .range) in
-      let kept : Carries (shifted t) = omega (arith, same, carries-shifted t fits carries (omega arith)) in
+      let more = carries-shifted t fits carries (omega arith) in
+      let kept : Carries (shifted t) = record { once = omega arith; kept = omega arith; first = λ z. omega (arith, more .first z) } in
       let two = holds-shifted (w ++ shiftBytes t) (shifted t) (record { base = i .base * 256; range = i .range; shifts = i .shifts + 1 }) (fits-shifted t fits) kept (omega arith) one in
       rw (← append-assoc w (shiftBytes t) (shiftBytes (shifted t))) (omega (arith, two .digits, c .carry, c .low))
 
@@ -219,49 +217,56 @@ own-number w t bits i c h =
     (eq-of-mul-eq-mul-right (2 ^ (8 - b)) (pow-pos (8 - b)) (own * 2 ^ (24 - bits)) (i .base)
     (mul-right-comm own (2 ^ (24 - bits)) (2 ^ (8 - b)) ∙ ap (λ (k : ℕ). k * 2 ^ (24 - bits)) cut ∙ pushed-number w t bits i c h))
 
--- a cache of -1 is never sent: behind the finish's shifts a byte is in the cache
-pub pushed-held : (reading : ℕ) (s : EncoderState) → Sound s → pushed (ended s (ending reading s)) (ending reading s .bits) .held ≡ 1
-pushed-held reading s sound =
-    pushed-closed (ended s (ending reading s)) (ending reading s .bits) (closes reading s sound) .held
+-- no shift reads the range
+pushed-ranged : (s : EncoderState) (range bits : ℕ) → pushed (withRange s range) bits ≡ withRange (pushed s bits) range
+pushed-ranged s range bits = by-test (ltb 8 bits) (λ e. rw e refl) (λ e. rw e refl)
+
+closed : (reading : ℕ) (s : EncoderState) → Sound s → Closed (withRange (finishState reading s) (2 ^ (24 - ending reading s .bits))) (finishBits reading s)
+closed reading s sound =
+    rw (← (pushed-ranged (ended s (ending reading s)) (2 ^ (24 - ending reading s .bits)) (ending reading s .bits)))
+    (pushed-closed (closing s (ending reading s)) (ending reading s .bits) (closes reading s sound))
+
+-- a byte is in the cache behind the finish's shifts
+pub finish-held : (reading : ℕ) (s : EncoderState) → Sound s → finishState reading s .held ≡ 1
+finish-held reading s sound = closed reading s sound .held
+
+-- so a cache of -1 is never sent
+pub pushed-held : (reading : ℕ) (xs : List Sent) → AllPass xs → finishState reading (stateBehind startEncoder xs) .held ≡ 1
+pushed-held reading xs all = finish-held reading (stateBehind startEncoder xs) (sound-behind startEncoder xs sound-start all)
 
 -- 0xFFs that still wait mean that all 8 bits of the last byte are sent, so the source's 0xff >> (8 - bits) is 0xff
-pub pending-whole : (reading : ℕ) (s : EncoderState) → Sound s → 0 < pushed (ended s (ending reading s)) (ending reading s .bits) .pending → finishBits reading s ≡ 8
-pending-whole reading s sound =
-    pushed-closed (ended s (ending reading s)) (ending reading s .bits) (closes reading s sound) .whole
+pub pending-whole : (reading : ℕ) (xs : List Sent) → AllPass xs → 0 < finishState reading (stateBehind startEncoder xs) .pending → ownBits reading xs ≡ 8
+pending-whole reading xs all = closed reading (stateBehind startEncoder xs) (sound-behind startEncoder xs sound-start all) .whole
 
 -- S bytes, and behind them as many bits as the ending has
 pub finish-length : (reading : ℕ) (w : List ℕ) (s : EncoderState) → Sound s → length w ≡ s .out → 8 * length (w ++ finishBytes reading s) + finishBits reading s ≡ 8 * shiftsOf s + ending reading s .bits
 finish-length reading w s sound sent =
-    closed-length w (ended s (ending reading s)) (ending reading s .bits) (closes reading s sound) sent
+    rw (pushed-ranged (ended s (ending reading s)) (2 ^ (24 - ending reading s .bits)) (ending reading s .bits)) at
+    (closed-length w (closing s (ending reading s)) (ending reading s .bits) (closes reading s sound) sent)
 
 -- at most E
 pub finish-reserved : (reading : ℕ) (w : List ℕ) (s : EncoderState) → Sound s → length w ≡ s .out → 8 * length (w ++ finishBytes reading s) + finishBits reading s ≤ reservedOf s
 finish-reserved reading w s sound sent =
     rw (finish-length reading w s sound sent) (omega (arith, ending-ended reading s sound .bits-most))
 
--- the ending has 1 to 9 bits
-pub ending-bits : (reading : ℕ) (s : EncoderState) → Sound s → (1 ≤ ending reading s .bits) × (ending reading s .bits ≤ 9)
-ending-bits reading s sound =
-    let c = closes reading s sound in
-    (c .some, c .most)
-
--- the last byte has 1 to 8 of them
+-- the last byte has 1 to 8 bits of the ending's
 pub last-bits : (reading : ℕ) (s : EncoderState) → Sound s → (1 ≤ finishBits reading s) × (finishBits reading s ≤ 8)
 last-bits reading s sound =
-    let e = ending-bits reading s sound in
-    last-most (ending reading s .bits) (e .0) (e .1)
+    let c = closes reading s sound in
+    last-most (ending reading s .bits) (c .some) (c .most)
 
 -- the number sent is the exact one, cut to its own bits
 pub finish-number : (reading : ℕ) (w : List ℕ) (s : EncoderState) (i : Interval) → Sound s → Holds w s i → ownNumber (w ++ finishBytes reading s) (finishLast reading s) (finishBits reading s) * 2 ^ (24 - ending reading s .bits) ≡ (number (w ++ heldDigits s) + ending reading s .carry) * 0x1000000 + ending reading s .value
 finish-number reading w s i sound h =
-    own-number w (ended s (ending reading s)) (ending reading s .bits)
+    rw (pushed-ranged (ended s (ending reading s)) (2 ^ (24 - ending reading s .bits)) (ending reading s .bits)) at
+    (own-number w (closing s (ending reading s)) (ending reading s .bits)
     (record {
       base = (number (w ++ heldDigits s) + ending reading s .carry) * 0x1000000 + ending reading s .value;
       range = 2 ^ (24 - ending reading s .bits);
       shifts = shiftsOf s;
     })
     (closes reading s sound)
-    (record { range = refl; shifts = refl; sent = h .sent; digits = refl; unsent = h .unsent })
+    (record { range = refl; shifts = refl; sent = h .sent; digits = refl; unsent = h .unsent }))
 
 -- a number that begins with n lies in a step from n on
 begins : (x n q base : ℕ) → 0 < q → x / q ≡ n → n * q ≡ base → (base ≤ x) × (x < base + q)
@@ -284,20 +289,13 @@ finish-inside w s i sound h x e =
     let within = begins x own q base (pow-pos (24 - ending 1 s .bits)) e (finish-number 1 w s i sound h) in
     inside s (ending 1 s) i (number (w ++ heldDigits s)) x (ending-exact s sound) (h .range) (h .digits) (within .0) (within .1)
 
--- theorem 3, of a list, in the standard reading: what is sent is S bytes and 24 - floor(log2 range) bits or one more, at most E; and
--- whatever continues it to 24 + 8S bits lies in the interval
-pub record Finishing (xs : List Sent) : Type 0 where
-  pub least : 8 * behind whole xs .shifts + 24 ≤ ownLength 1 xs + floorLog2 (behind whole xs .range)
-  pub most : ownLength 1 xs + floorLog2 (behind whole xs .range) ≤ 8 * behind whole xs .shifts + 25
-  pub reserved : ownLength 1 xs ≤ reservedBits (behind whole xs .shifts) (behind whole xs .range)
-  pub inside : (x : ℕ) → x / 2 ^ (24 + 8 * behind whole xs .shifts - ownLength 1 xs) ≡ ownNumber (ownBytes 1 xs) (ownLast 1 xs) (ownBits 1 xs) → (behind whole xs .base ≤ x) × (x < behind whole xs .base + behind whole xs .range)
-
--- the same of any state that holds an interval
+-- how much is sent, of any state that holds an interval
 finishing-by : (w : List ℕ) (s : EncoderState) (i : Interval) → Sound s → Holds w s i → (8 * i .shifts + ending 1 s .bits ≡ 8 * length (w ++ finishBytes 1 s) + finishBits 1 s) × (24 ≤ ending 1 s .bits + floorLog2 (i .range)) × (ending 1 s .bits + floorLog2 (i .range) ≤ 25)
 finishing-by w s i sound h =
     let e = ending-ended 1 s sound in
     (omega (arith, finish-length 1 w s sound (h .sent), h .shifts), rw (← h .range) (e .bits-least), rw (← h .range) (e .bits-most))
 
+-- theorem 3, of any symbols that pass
 pub finish-sends : (xs : List Sent) → AllPass xs → Finishing xs
 finish-sends xs all =
     let s = stateBehind startEncoder xs in

@@ -10,13 +10,8 @@ use lib.Pow.{pow-add}
 use Rattle.common.proofs.Bools.{by-test}
 use Rattle.range_encoder.specs.Interval.{Sent, Interval, whole, part, widened, narrowedBy, behind}
 use Rattle.range_encoder.specs.Runs.{Passes, AllPass, none, more}
+use Rattle.range_encoder.specs.Theory.{Within}
 use Rattle.range_encoder.proofs.Symbols.{symbol-given}
-
--- an interval between two symbols: the numbers of its string are those below 2^(24 + 8 S)
-pub record Within (i : Interval) : Type 0 where
-  pub range-least : 0x10000 ≤ i .range
-  pub range-most : i .range ≤ 0xFFFFFF
-  pub inside : i .base + i .range ≤ 2 ^ (24 + 8 * i .shifts)
 
 -- one between two turns, whose range may be short
 record Short (i : Interval) : Type 0 where

@@ -11,5 +11,6 @@ pub mod Sends
 pub mod Decodes
 pub mod Continues
 pub mod OwnBits
+pub mod Laid
 pub mod Forecasts
 pub mod CrateFinish

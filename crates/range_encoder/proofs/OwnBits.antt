@@ -9,23 +9,20 @@ use Rattle.common.specs.Last.{floorLog2}
 use Rattle.common.specs.Reply.{accepted}
 use Rattle.buffer_reader.specs.Steps.{next}
 use Rattle.buffer_reader.specs.declared.Cursor.{Cursor}
-use Rattle.buffer_writer.proofs.Places.{Bytes}
+use Rattle.buffer_reader.specs.Tail.{Bytes}
 use Rattle.range_decoder.specs.Decoder.{startDecoder}
-use Rattle.range_encoder.specs.Digits.{headNumber}
-use Rattle.range_encoder.specs.Interval.{Sent, whole, behind}
 use Rattle.range_encoder.specs.Encoder.{startEncoder}
+use Rattle.range_encoder.specs.Interval.{Sent, whole, behind}
 use Rattle.range_encoder.specs.Runs.{AllPass, stateBehind, ownBytes, ownLast, ownBits, ownLength, decodeAll}
+use Rattle.range_encoder.specs.Digits.{headNumber}
+use Rattle.range_encoder.specs.Theory.{Inside, cursorAt, decodedAs, Begins}
 use Rattle.range_encoder.proofs.Carry.{carry-exact, sound-start, sound-behind}
 use Rattle.range_encoder.proofs.Endings.{log-range}
 use Rattle.range_encoder.proofs.Finishes.{finish-sends, last-bits}
-use Rattle.range_encoder.proofs.Continues.{Continues, continues-number}
-use Rattle.range_encoder.proofs.Decodes.{Inside, decodedAs, cursorAt, decodes}
+use Rattle.range_encoder.proofs.Continues.{continues-number}
+use Rattle.range_encoder.proofs.Decodes.{decodes}
 
--- a frame that begins with the own bits of a list of symbols
-abbrev pub Begins : List ℕ → ℕ → List Sent → Type 0
-Begins f h xs = Continues f h (ownBytes 1 xs) (ownLast 1 xs) (ownBits 1 xs)
-
--- its first 3 + S bytes lie in the interval of the list
+-- the first 3 + S bytes of a frame that begins with the own bits of a list lie in the list's interval
 pub begins-inside : (f : List ℕ) (h : ℕ) (xs : List Sent) → Bytes f → AllPass xs → Begins f h xs → Inside f h (behind whole xs)
 begins-inside f h xs bytes all begins =
     let sends = finish-sends xs all in

@@ -13,13 +13,14 @@ use lib.Seq.{sets}
 use Rattle.common.proofs.Bools.{by-test}
 use Rattle.buffer_writer.specs.Writes.{withTop}
 use Rattle.buffer_writer.proofs.Copies.{sets-append}
-use Rattle.range_encoder.specs.Encoder.{shiftsOf, shifted, shiftBytes, reservedOf, Fits, Sound}
+use Rattle.range_encoder.specs.Encoder.{shiftsOf, shifted, shiftBytes, reservedOf}
 use Rattle.range_encoder.specs.Finish.{Ending, ending, ended, pushed, pushedBytes, lastBits, heldBytes, lastByte, finishBytes, finishLast, finishBits, withOwn}
+use Rattle.range_encoder.specs.Private.{Fits, Sound}
 use Rattle.range_encoder.specs.declared.EncoderState.{EncoderState}
 use Rattle.range_encoder.specs.declared.Finished.{Finished}
 use Rattle.range_encoder.proofs.States.{fits-shifted, shifts-shifted, out-shifted}
 use Rattle.range_encoder.proofs.Endings.{ending-ended, ending-fits}
-use Rattle.range_encoder.proofs.Finishes.{pushed-held, ending-bits, last-bits, pushed-out, pushed-shifts, held-length}
+use Rattle.range_encoder.proofs.Finishes.{finish-held, last-bits, pushed-out, pushed-shifts, held-length}
 
 -- a list of own bytes behind another
 pub own-append : (f : List ℕ) (at : ℕ) (xs ys : List ℕ) (last bits : ℕ) → withOwn f at (xs ++ ys) last bits ≡ withOwn (sets f at xs) (at + length xs) ys last bits
@@ -74,14 +75,10 @@ push-room reading n s sound room =
 
 -- the finish in its steps: what it chooses, the state that it sends, and the state behind the shifts
 module _ (reading : ℕ) (s : EncoderState) (e : Ending) (choice : e ≡ ending reading s) where
-  -- it chooses 1 to 9 bits
-  pub chosen-bits : Sound s → (1 ≤ e .bits) × (e .bits ≤ 9)
-  chosen-bits sound = rw choice (ending-bits reading s sound)
-
   module _ (t : EncoderState) (state : t ≡ ended s e) where
     -- the state that it sends fits, and its shifts have room
     pub push-ready : (n : ℕ) → Sound s → reservedOf s ≤ 8 * n → (Fits t) × (shiftsOf (pushed t (e .bits)) ≤ n)
-    push-ready n sound room = rw (state, choice) (ending-fits reading s sound, push-room reading n s sound room)
+    push-ready n sound room = rw (state, choice) (ending-fits reading s sound .0, push-room reading n s sound room)
 
     module _ (p : EncoderState) (b : ℕ) (shifts : p ≡ pushed t (e .bits)) (last : b ≡ lastBits (e .bits)) where
       -- behind them a byte is in the cache, and 1 to 8 bits of the last byte are sent
@@ -89,8 +86,8 @@ module _ (reading : ℕ) (s : EncoderState) (e : Ending) (choice : e ≡ ending 
       last-ready n sound room =
           let some = last-bits reading s sound in
           rw (shifts, last, state, choice) (
-            fits-pushed (ended s (ending reading s)) (ending reading s .bits) (ending-fits reading s sound),
-            pushed-held reading s sound,
+            fits-pushed (ended s (ending reading s)) (ending reading s .bits) (ending-fits reading s sound .0),
+            finish-held reading s sound,
             some .0,
             some .1,
             push-room reading n s sound room,

@@ -3,13 +3,14 @@
 use Prim.Native.Nat.{ℕ, _+_, _*_, _≤_, _<_}
 use mathlib.Core.Path.{_≡_}
 use native.Mathlib.Omega.{arith}
-use native.Mathlib.Nat.{mul-le-mul-left}
 use borrow.Author.Tests.{ltb-true, lt-ltb}
 use lib.Dec.{ltb}
 use lib.ListN.{length, length-append, length-replicate}
 use Rattle.common.proofs.Bools.{by-test}
+use Rattle.common.proofs.Cumulatives.{share-within}
 use Rattle.range_decoder.specs.Decoder.{unitOf}
-use Rattle.range_encoder.specs.Encoder.{shiftsOf, settles, shifted, shiftBytes, symbolAdded, withRange, turn, turnBytes, encoded, encodedBytes, Fits}
+use Rattle.range_encoder.specs.Encoder.{shiftsOf, settles, shifted, shiftBytes, symbolAdded, withRange, turn, turnBytes, encoded, encodedBytes}
+use Rattle.range_encoder.specs.Private.{Fits}
 use Rattle.range_encoder.specs.declared.EncoderState.{EncoderState}
 
 -- a shift keeps 24 bits of low, and its top byte is the new cache
@@ -30,7 +31,7 @@ out-shifted s =
 -- what a symbol is given is at most the range, so it fits where the range did
 pub fits-added : (s : EncoderState) (cum freq : ℕ) → Fits s → cum + freq ≤ 1024 → Fits (symbolAdded s cum freq)
 fits-added s cum freq h most =
-    let own : unitOf (s .range) * freq ≤ unitOf (s .range) * 1024 = mul-le-mul-left (unitOf (s .range)) (omega arith) in
+    let own = share-within (unitOf (s .range)) cum freq most in
     by-test (ltb (s .low + unitOf (s .range) * cum) 0x1000000) (λ e. rw e (omega arith)) (λ e. rw e (omega arith))
 
 fits-ranged : (s : EncoderState) (range : ℕ) → Fits s → range < 0x1000000 → Fits (withRange s range)

@@ -1,6 +1,7 @@
 -- A symbol of a list that passes has a share of its row. Assumes nothing.
 use Prim.Native.Nat.{ℕ, _≤_}
-use Rattle.range_decoder.proofs.Shares.{Shares, Given, row-shares, shares-given}
+use Rattle.common.proofs.Cumulatives.{Shares, row-shares}
+use Rattle.range_decoder.proofs.Shares.{Given, shares-given}
 use Rattle.range_encoder.specs.Interval.{Sent, cumulativeOf, frequencyOf}
 use Rattle.range_encoder.specs.Runs.{Passes}
 

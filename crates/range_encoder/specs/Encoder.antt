@@ -1,12 +1,13 @@
 -- The encoder as in the source: `ac_enc_init`, `ac_shift` and `ac_encode`. Each is the state behind it, and the bytes that it
--- sends, which follow those that are out.
-use Prim.Native.Nat.{ℕ, _+_, _*_, _/_, _%_, _≤_, _<_}
+-- sends, which follow those that are out. This is the Rust's from every state that symbols of rows that pass lead to
+-- (`sound-behind`): there no sum passes 32 bits, and two turns are the source's whole loop.
+use Prim.Native.Nat.{ℕ, _+_, _-_, _*_, _/_, _%_}
 use mathlib.Core.Bool.{Bool, cond, _||_}
 use mathlib.Core.List.{List, [], _++_}
 use lib.Dec.{ltb, eqb}
 use lib.ListN.{replicate}
+use Rattle.common.specs.Last.{floorLog2}
 use Rattle.range_decoder.specs.Decoder.{unitOf}
-use Rattle.range_encoder.specs.Interval.{reservedBits}
 use Rattle.range_encoder.specs.declared.EncoderState.{EncoderState}
 
 abbrev pub startEncoder : EncoderState
@@ -30,50 +31,38 @@ shiftBytes s =
 -- `ac_shift`: the state behind it
 abbrev pub shifted : EncoderState → EncoderState
 shifted s =
-    cond (settles s)
-    (record {
+    record {
       low = s .low * 256 % 0x1000000;
       range = s .range;
-      held = 1;
-      cache = s .low / 0x10000;
-      carry = 0;
-      pending = 0;
-      out = shiftsOf s;
-    })
-    (record {
-      low = s .low * 256 % 0x1000000;
-      range = s .range;
+      held = cond (settles s) 1 (s .held);
+      cache = cond (settles s) (s .low / 0x10000) (s .cache);
+      carry = cond (settles s) 0 (s .carry);
+      pending = cond (settles s) 0 (s .pending + 1);
+      out = cond (settles s) (shiftsOf s) (s .out);
+    }
+
+-- a state with another low, range and carry
+abbrev pub changed : EncoderState → ℕ → ℕ → ℕ → EncoderState
+changed s low range carry =
+    record {
+      low = low;
+      range = range;
       held = s .held;
       cache = s .cache;
-      carry = s .carry;
-      pending = s .pending + 1;
+      carry = carry;
+      pending = s .pending;
       out = s .out;
-    })
+    }
 
 -- `ac_encode` up to its loop, by a symbol's cumulative and frequency
 abbrev pub symbolAdded : EncoderState → ℕ → ℕ → EncoderState
 symbolAdded s cumulative frequency =
-    record {
-      low = (s .low + unitOf (s .range) * cumulative) % 0x1000000;
-      range = unitOf (s .range) * frequency;
-      held = s .held;
-      cache = s .cache;
-      carry = cond (ltb (s .low + unitOf (s .range) * cumulative) 0x1000000) (s .carry) 1;
-      pending = s .pending;
-      out = s .out;
-    }
+    let r = unitOf (s .range) in
+    let low = s .low + r * cumulative in
+    changed s (low % 0x1000000) (r * frequency) (cond (ltb low 0x1000000) (s .carry) 1)
 
 abbrev pub withRange : EncoderState → ℕ → EncoderState
-withRange s range =
-    record {
-      low = s .low;
-      range = range;
-      held = s .held;
-      cache = s .cache;
-      carry = s .carry;
-      pending = s .pending;
-      out = s .out;
-    }
+withRange s range = changed s (s .low) range (s .carry)
 
 -- "while range < 0x10000": one turn of it
 abbrev pub turn : EncoderState → EncoderState
@@ -88,35 +77,16 @@ encoded s cumulative frequency = turn (turn (symbolAdded s cumulative frequency)
 
 abbrev pub encodedBytes : EncoderState → ℕ → ℕ → List ℕ
 encodedBytes s cumulative frequency =
-    turnBytes (symbolAdded s cumulative frequency) ++ turnBytes (turn (symbolAdded s cumulative frequency))
+    let added = symbolAdded s cumulative frequency in
+    turnBytes added ++ turnBytes (turn added)
 
--- E of a state
+-- "Reserved bits E = 8S + 25 - floor(log2 range)"
+abbrev pub reservedBits : ℕ → ℕ → ℕ
+reservedBits shifts range = 8 * shifts + 25 - floorLog2 range
+
 abbrev pub reservedOf : EncoderState → ℕ
 reservedOf s = reservedBits (shiftsOf s) (s .range)
 
 -- the source's own forecast, `nbits_side_forcast`: it counts a byte in the cache also while there is none
 abbrev pub forecastOf : EncoderState → ℕ
 forecastOf s = reservedBits (s .out + 1 + s .pending) (s .range)
-
--- each number of a state fits its place
-pub record Fits (s : EncoderState) : Type 0 where
-  pub low-fits : s .low < 0x1000000
-  pub range-fits : s .range < 0x1000000
-  pub held-most : s .held ≤ 1
-  pub cache-fits : s .cache < 256
-  pub carry-most : s .carry ≤ 1
-
--- what holds of every state on the way: the end of its interval bounds what may still be carried
-pub record Carries (s : EncoderState) : Type 0 where
-  -- a carry that is known is followed by no second
-  pub once : s .carry * 0x1000000 + s .low + s .range ≤ 0x2000000
-  -- the byte in the cache has room for it
-  pub kept : (s .cache + s .carry) * 0x1000000 + s .low + s .range ≤ 0x100000000
-  -- with no byte in the cache, nothing is ever carried
-  pub first : s .carry * 0x1000000 + s .low + s .range < 0x1000000 + s .held * 0x2000000
-
--- the invariant of a state between two symbols
-pub record Sound (s : EncoderState) : Type 0 where
-  pub fits : Fits s
-  pub range-least : 0x10000 ≤ s .range
-  pub carries : Carries s

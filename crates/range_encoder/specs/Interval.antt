@@ -1,11 +1,10 @@
--- The coder in exact numbers: what a list of symbols makes of the first interval. Document 01, "The coder": S and E.
-use Prim.Native.Nat.{ℕ, _+_, _-_, _*_}
+-- The coder in exact numbers: what a list of symbols makes of the first interval.
+use Prim.Native.Nat.{ℕ, _+_, _*_}
 use mathlib.Core.Bool.{cond}
 use mathlib.Core.List.{List, [], _∷_}
 use lib.Dec.{ltb}
 use lib.ListN.{getD}
 use Rattle.common.specs.Tables.{cumulative}
-use Rattle.common.specs.Last.{floorLog2}
 use Rattle.range_decoder.specs.Decoder.{unitOf}
 
 -- a symbol that is sent: the row that it is coded by, and its place there
@@ -42,6 +41,7 @@ abbrev pub widened : Interval → Interval
 widened i =
     cond (ltb (i .range) 0x10000) (record { base = i .base * 256; range = i .range * 256; shifts = i .shifts + 1 }) i
 
+-- a symbol's own, with two turns, as many as the coder makes
 abbrev pub narrowedBy : Interval → Sent → Interval
 narrowedBy i x = widened (widened (part i x))
 
@@ -49,7 +49,3 @@ narrowedBy i x = widened (widened (part i x))
 unfoldable pub behind : Interval → List Sent → Interval
 behind i [] = i
 behind i (x ∷ xs) = behind (narrowedBy i x) xs
-
--- "Reserved bits E = 8S + 25 - floor(log2 range)"
-abbrev pub reservedBits : ℕ → ℕ → ℕ
-reservedBits shifts range = 8 * shifts + 25 - floorLog2 range

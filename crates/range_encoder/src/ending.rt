@@ -1,8 +1,8 @@
-// What the finish decides, before it sends anything.
+// What the finish decides, before it sends anything: the source's lines, and its names.
 ghost use mathlib.Core.Path.{_≡_};
-ghost use Prim.Native.Nat.{_+_, _-_, _%_, _≤_, _<_};
-ghost use Rattle.range_encoder.specs.Encoder.{Fits};
-ghost use Rattle.range_encoder.specs.Finish.{roundedUp, highOf, endingAt, endingBy, ending as Finish·ending, endingOf};
+ghost use Prim.Native.Nat.{_≤_, _<_};
+ghost use Rattle.range_encoder.specs.Finish.{valOf, highIn, endingAt, ending as Finish·ending};
+ghost use Rattle.range_encoder.specs.Private.{Fits, endingOf};
 use crate::EncoderState;
 
 pub(crate) struct Closing {
@@ -11,30 +11,26 @@ pub(crate) struct Closing {
     pub carry: u32,
 }
 
-fn rounded_up(low: u32, step: u32) -> u32
-    requires { ⌜ (low < 0x1000000) × (0 < step) × (step < 0x1000000) ⌝ }
-    ensures { λ r. ⌜ (r ≡ roundedUp low step) × (r < 0x1000000) ⌝ }
+// `low + mask`, cut to 24 bits and without the bits of the mask.
+fn val(low: u32, mask: u32) -> u32
+    requires { ⌜ (low < 0x1000000) × (mask < 0x1000000) ⌝ }
+    ensures { λ r. ⌜ (r ≡ valOf low mask) × (r < 0x1000000) ⌝ }
 {
-    let sum = (low + (step - 1)) % 0x1000000;
-    sum - sum % step
+    let sum = (low + mask) % 0x1000000;
+    sum - sum % (mask + 1)
 }
 
-fn high(reading: usize, st: EncoderState) -> u32
-    requires { ⌜ Fits st ⌝ }
-    ensures { λ r. ⌜ r ≡ highOf reading st ⌝ }
+// What the reading compares with.
+fn high_in(reading: usize, high: u32) -> u32
+    ensures { λ r. ⌜ r ≡ highIn reading high ⌝ }
 {
-    if reading == 0 {
-        st.low + st.range
-    } else {
-        (st.low + st.range) % 0x1000000
-    }
+    if reading == 0 { high } else { high % 0x1000000 }
 }
 
-fn ending_at(st: EncoderState, bits: usize, step: u32) -> Closing
-    requires { ⌜ (Fits st) × (0 < step) × (step < 0x1000000) ⌝ }
-    ensures { λ r. ⌜ endingOf r ≡ endingAt st bits step ⌝ }
+// A value below low has carried.
+fn ending_at(st: EncoderState, bits: usize, value: u32) -> Closing
+    ensures { λ r. ⌜ endingOf r ≡ endingAt st bits value ⌝ }
 {
-    let value = rounded_up(st.low, step);
     if value < st.low {
         return Closing {
             bits,
@@ -49,30 +45,22 @@ fn ending_at(st: EncoderState, bits: usize, step: u32) -> Closing
     }
 }
 
-fn ending_by(reading: usize, st: EncoderState, n: usize) -> Closing
-    requires { ⌜ (Fits st) × (16 ≤ n) × (n < 24) ⌝ }
-    ensures { λ r. ⌜ endingOf r ≡ endingBy reading st n ⌝ }
-{
-    let step = common::inner::power(n);
-    let value = rounded_up(st.low, step);
-    let over = (st.low + (step - 1)) / 0x1000000;
-    if over != (st.low + st.range) / 0x1000000 {
-        let carry = st.carry;
-        return Closing {
-            bits: 24 - n,
-            value,
-            carry,
-        };
-    }
-    if value + (step - 1) < high(reading, st) {
-        return ending_at(st, 24 - n, step);
-    }
-    ending_at(st, 25 - n, common::inner::power(n - 1))
-}
-
 pub(crate) fn ending(reading: usize, st: EncoderState) -> Closing
     requires { ⌜ (Fits st) × (0x10000 ≤ st .range) ⌝ }
     ensures { λ r. ⌜ endingOf r ≡ Finish·ending reading st ⌝ }
 {
-    ending_by(reading, st, common::inner::floor_log2(st.range))
+    let bits = 24 - common::inner::floor_log2(st.range);
+    let mask: u32 = 0xffffff >> bits;
+    let over1 = (st.low + mask) >> 24;
+    let high = st.low + st.range;
+    let over2 = high >> 24;
+    let value = val(st.low, mask);
+    if over1 != over2 {
+        let carry = st.carry;
+        return Closing { bits, value, carry };
+    }
+    if value + mask < high_in(reading, high) {
+        return ending_at(st, bits, value);
+    }
+    ending_at(st, bits + 1, val(st.low, mask >> 1))
 }

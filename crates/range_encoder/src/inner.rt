@@ -1,13 +1,14 @@
-// The encoder's calls, for the frame writer: each requires the state's invariant, and room for what it may send.
+// The encoder's calls, for the frame writer: each requires that the state's numbers fit, and the finish the whole invariant. What
+// sends requires room for it.
 ghost use mathlib.Core.Path.{_≡_};
 ghost use mathlib.Core.Bool.{true, cond};
 ghost use lib.Dec.{ltb};
 ghost use Prim.Native.Nat.{_+_, _*_, _≤_, _<_};
 ghost use lib.ListN.{length};
 ghost use lib.Seq.{sets};
-ghost use Rattle.range_encoder.specs.Encoder.{startEncoder, shiftsOf, settles as Encoder·settles, shiftBytes, shifted, symbolAdded, withRange, turn as Encoder·turn, turnBytes, encoded, encodedBytes, reservedOf, forecastOf, Fits, Sound};
-ghost use Rattle.range_encoder.specs.Interval.{reservedBits};
-ghost use Rattle.range_encoder.specs.Finish.{endingOf, ended as Finish·ended, pushed, pushedBytes, lastBits, heldBytes, lastByte, finishBytes, finishLast, finishBits, withOwn};
+ghost use Rattle.range_encoder.specs.Encoder.{startEncoder, shiftsOf, settles as Encoder·settles, shiftBytes, shifted, symbolAdded, withRange, turn as Encoder·turn, turnBytes, encoded, encodedBytes, reservedBits, reservedOf, forecastOf};
+ghost use Rattle.range_encoder.specs.Finish.{ended as Finish·ended, pushed, pushedBytes, lastBits, heldBytes, lastByte, finishBytes, finishLast, finishBits, withOwn};
+ghost use Rattle.range_encoder.specs.Private.{Fits, Sound, endingOf};
 use crate::EncoderState;
 use crate::Finished;
 
@@ -161,12 +162,11 @@ pub fn nbits_forecast(st: EncoderState) -> usize
 }
 
 fn ended(st: EncoderState, e: crate::ending::Closing) -> EncoderState
-    requires { ⌜ (1 ≤ e .bits) × (e .bits ≤ 9) ⌝ }
     ensures { λ r. ⌜ r ≡ Finish·ended st (endingOf e) ⌝ }
 {
     EncoderState {
         low: e.value,
-        range: common::inner::power(24 - e.bits),
+        range: st.range,
         held: st.held,
         cache: st.cache,
         carry: e.carry,

@@ -1,48 +1,54 @@
 -- Which check of the side information's reader and writer holds, and what the frame then holds.
 -- Assumes nothing.
-use Prim.Native.Nat.{ℕ, _*_}
+use Prim.Native.Nat.{ℕ, _*_, _≤_}
 use mathlib.Core.Path.{_≡_, refl}
 use mathlib.Core.Bool.{true, false}
 use mathlib.Core.List.{List}
 use lib.ListN.{length}
-use Rattle.common.specs.Reply.{Reply, accepted, refused, outsideLimits, wrongLength, fieldOutside}
-use Rattle.common.specs.Configuration.{configurationPasses, ne, frameLength}
+use Rattle.common.specs.Reply.{Reply, accepted, refused, fieldOutside}
+use Rattle.common.specs.Configuration.{ne, frameLines}
 use Rattle.common.specs.declared.configuration.Configuration.{Configuration}
+use Rattle.common.proofs.Configurations.{fs-limit, ne-range, length-limits, frame-known}
+use Rattle.buffer_reader.specs.Steps.{next}
 use Rattle.buffer_reader.specs.declared.Cursor.{Cursor}
-use Rattle.side_info.specs.Reader.{readSide, readAll}
+use Rattle.side_info.specs.Reader.{readBandwidth, readLastnz, readAll, readSide}
 use Rattle.side_info.specs.Record.{sidePasses}
-use Rattle.side_info.specs.Layout.{sideValues, sideWidths, roomFor, putFields}
-use Rattle.side_info.specs.Writer.{writeFields, fieldsWritten, writeSide, sideWritten}
+use Rattle.side_info.specs.Layout.{sideFields, roomFor, putFields}
+use Rattle.side_info.specs.Writer.{writeSide, sideWritten}
+use Rattle.side_info.specs.Private.{fromLevel, writeFields, fieldsWritten}
 use Rattle.side_info.specs.declared.SideInfo.{SideInfo}
+use Rattle.side_info.specs.declared.writer.Field.{Field}
 
-module _ (k : Configuration) (f : List ℕ) (c : Cursor) where
-  pub read-outside : configurationPasses k ≡ false → readSide k f c ≡ refused outsideLimits
-  read-outside e = rw e refl
+-- what a call that got past refusals 1 and 2 knows
+pub frame-ranges : (k : Configuration) (bytes : ℕ) {n : ℕ} → frameLines k bytes ≡ accepted n → (k .«fs_ind» ≤ 4) × (60 ≤ n) × (n ≤ 400) × (20 ≤ bytes) × (bytes ≤ 400)
+frame-ranges k bytes e =
+    let known = frame-known k bytes e in
+    let lines = ne-range k (known .0) in
+    let size = length-limits bytes (known .1) in
+    (fs-limit k (known .0), rw (known .2) (lines .0), rw (known .2) (lines .1), size .0, size .1)
 
-  pub read-length : configurationPasses k ≡ true → frameLength (length f) ≡ false → readSide k f c ≡ refused (wrongLength (length f))
-  read-length e l = rw (e, l) refl
+-- the reader's chain is made of the pieces that the code's functions read
+pub chain-made : (fs ne : ℕ) → readAll fs ne ≡ next (readBandwidth fs) (λ bandwidth. next (readLastnz ne) (λ lastnz. fromLevel bandwidth lastnz))
+chain-made fs ne = refl
 
-  pub read-on : configurationPasses k ≡ true → frameLength (length f) ≡ true → readSide k f c ≡ readAll (k .«fs_ind») (ne (k .duration) (k .«fs_ind»)) f c
-  read-on e l = rw (e, l) refl
+pub read-on : (k : Configuration) (f : List ℕ) (c : Cursor) {n : ℕ} → frameLines k (length f) ≡ accepted n → readSide k f c ≡ readAll (k .«fs_ind») n f c
+read-on k f c e = rw e refl
 
--- so many fields written behind one another
-module _ (vs ws f : List ℕ) (c : Cursor) where
-  pub fields-refused : {r : Reply} → roomFor (8 * length f) (c .tail) ws ≡ refused r → (refused r ≡ writeFields ws f c) × (f ≡ fieldsWritten vs ws f c)
+-- fields written behind one another
+module _ (fields : List Field) (f : List ℕ) (c : Cursor) where
+  pub fields-refused : {r : Reply} → roomFor (8 * length f) (c .tail) fields ≡ refused r → (refused r ≡ writeFields fields f c) × (f ≡ fieldsWritten fields f c)
   fields-refused e = (rw e refl, rw e refl)
 
-  pub fields-put : {t : ℕ} → roomFor (8 * length f) (c .tail) ws ≡ accepted t → (accepted (record { head = c .head; tail = t }) ≡ writeFields ws f c) × (putFields f (c .tail) vs ws ≡ fieldsWritten vs ws f c)
+  pub fields-put : {t : ℕ} → roomFor (8 * length f) (c .tail) fields ≡ accepted t → (accepted (record { head = c .head; tail = t }) ≡ writeFields fields f c) × (putFields f (c .tail) fields ≡ fieldsWritten fields f c)
   fields-put e = (rw e refl, rw e refl)
 
 -- a record written
 module _ (k : Configuration) (s : SideInfo) (f : List ℕ) (c : Cursor) where
-  pub write-outside : configurationPasses k ≡ false → (refused outsideLimits ≡ writeSide k s f c) × (f ≡ sideWritten k s f c)
-  write-outside e = (rw e refl, rw e refl)
+  pub write-refused : {r : Reply} → frameLines k (length f) ≡ refused r → (refused r ≡ writeSide k s f c) × (f ≡ sideWritten k s f c)
+  write-refused e = (rw e refl, rw e refl)
 
-  pub write-length : configurationPasses k ≡ true → frameLength (length f) ≡ false → (refused (wrongLength (length f)) ≡ writeSide k s f c) × (f ≡ sideWritten k s f c)
-  write-length e l = (rw (e, l) refl, rw (e, l) refl)
+  pub write-field : {n : ℕ} → frameLines k (length f) ≡ accepted n → sidePasses (k .«fs_ind») n s ≡ false → (refused fieldOutside ≡ writeSide k s f c) × (f ≡ sideWritten k s f c)
+  write-field e p = (rw (e, p) refl, rw (e, p) refl)
 
-  pub write-field : configurationPasses k ≡ true → frameLength (length f) ≡ true → sidePasses (k .«fs_ind») (ne (k .duration) (k .«fs_ind»)) s ≡ false → (refused fieldOutside ≡ writeSide k s f c) × (f ≡ sideWritten k s f c)
-  write-field e l p = (rw (e, l, p) refl, rw (e, l, p) refl)
-
-  pub write-on : configurationPasses k ≡ true → frameLength (length f) ≡ true → sidePasses (k .«fs_ind») (ne (k .duration) (k .«fs_ind»)) s ≡ true → (writeFields (sideWidths (k .«fs_ind») (ne (k .duration) (k .«fs_ind»)) s) f c ≡ writeSide k s f c) × (fieldsWritten (sideValues s) (sideWidths (k .«fs_ind») (ne (k .duration) (k .«fs_ind»)) s) f c ≡ sideWritten k s f c)
-  write-on e l p = (rw (e, l, p) refl, rw (e, l, p) refl)
+  pub write-on : {n : ℕ} → frameLines k (length f) ≡ accepted n → sidePasses (k .«fs_ind») n s ≡ true → (writeFields (sideFields (k .«fs_ind») n s) f c ≡ writeSide k s f c) × (fieldsWritten (sideFields (k .«fs_ind») n s) f c ≡ sideWritten k s f c)
+  write-on e p = (rw (e, p) refl, rw (e, p, ← (frame-known k (length f) e .2)) refl)

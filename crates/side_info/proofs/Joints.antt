@@ -2,13 +2,14 @@
 -- shapes, and both are below their limits: what the writer lays down is what the reader finds. Assumes nothing.
 use Prim.Native.Nat.{ℕ, zero, suc, _+_, _-_, _*_, _/_, _%_, _^_, _≤_, _<_}
 use mathlib.Core.Path.{_≡_, refl, subst}
-use mathlib.Core.Bool.{true, _&&_}
+use mathlib.Core.Bool.{true, false, _&&_}
 use native.Mathlib.Omega.{arith}
-use borrow.Author.Tests.{lt-ltb, le-ltb, leb-true}
+use borrow.Author.Tests.{lt-ltb, le-ltb, leb-true, le-leb, ne-eqb}
 use lib.Dec.{leb, eqb}
-use Rattle.common.proofs.Bools.{and-left, and-right}
+use Rattle.common.proofs.Bools.{and-left, and-right, and-both}
 use Rattle.side_info.specs.Joint.{snsOf, partOf, jointOf}
-use Rattle.side_info.specs.Record.{mostIf, shapeOf, gainMost, idxMost, snsPasses}
+use Rattle.side_info.specs.Reader.{partBits, jointBits}
+use Rattle.side_info.specs.Record.{ifThere, shapeOf, gainMost, idxMost, snsPasses}
 use Rattle.side_info.specs.declared.Sns.{Sns}
 
 -- the limits of a second stage that passes
@@ -20,8 +21,8 @@ pub record SnsLimits (s : Sns) : Type 0 where
   pub gains : s .gain ≤ gainMost (shapeOf s)
   pub signA : s .«ls_inda» ≤ 1
   pub indexA : s .«idx_a» ≤ idxMost (shapeOf s)
-  pub signB : s .«ls_indb» ≤ mostIf (eqb (shapeOf s) 0) 1
-  pub indexB : s .«idx_b» ≤ mostIf (eqb (shapeOf s) 0) 5
+  pub signB : s .«ls_indb» ≤ ifThere (eqb (shapeOf s) 0) 1
+  pub indexB : s .«idx_b» ≤ ifThere (eqb (shapeOf s) 0) 5
 
 pub sns-limits : (s : Sns) → snsPasses s ≡ true → SnsLimits s
 sns-limits s e =
@@ -32,8 +33,8 @@ sns-limits s e =
     let g = leb (s .gain) (gainMost (shapeOf s)) in
     let h = leb (s .«ls_inda») 1 in
     let i = leb (s .«idx_a») (idxMost (shapeOf s)) in
-    let j = leb (s .«ls_indb») (mostIf (eqb (shapeOf s) 0) 1) in
-    let k = leb (s .«idx_b») (mostIf (eqb (shapeOf s) 0) 5) in
+    let j = leb (s .«ls_indb») (ifThere (eqb (shapeOf s) 0) 1) in
+    let k = leb (s .«idx_b») (ifThere (eqb (shapeOf s) 0) 5) in
     let e8 = and-left (a && b && c && d && g && h && i && j) k e in
     let e7 = and-left (a && b && c && d && g && h && i) j e8 in
     let e6 = and-left (a && b && c && d && g && h) i e7 in
@@ -49,9 +50,24 @@ sns-limits s e =
       gains = leb-true (s .gain) (gainMost (shapeOf s)) (and-right (a && b && c && d) g e5);
       signA = leb-true (s .«ls_inda») 1 (and-right (a && b && c && d && g) h e6);
       indexA = leb-true (s .«idx_a») (idxMost (shapeOf s)) (and-right (a && b && c && d && g && h) i e7);
-      signB = leb-true (s .«ls_indb») (mostIf (eqb (shapeOf s) 0) 1) (and-right (a && b && c && d && g && h && i) j e8);
-      indexB = leb-true (s .«idx_b») (mostIf (eqb (shapeOf s) 0) 5) (and-right (a && b && c && d && g && h && i && j) k e);
+      signB = leb-true (s .«ls_indb») (ifThere (eqb (shapeOf s) 0) 1) (and-right (a && b && c && d && g && h && i) j e8);
+      indexB = leb-true (s .«idx_b») (ifThere (eqb (shapeOf s) 0) 5) (and-right (a && b && c && d && g && h && i && j) k e);
     }
+
+-- and back, nine tests at once
+pub limits-sns : (s : Sns) → SnsLimits s → snsPasses s ≡ true
+limits-sns s h =
+    and-both _ _
+    (and-both _ _
+    (and-both _ _
+    (and-both _ _
+    (and-both _ _
+    (and-both _ _ (and-both _ _ (and-both _ _ (le-leb _ _ (h .low)) (le-leb _ _ (h .high))) (le-leb _ _ (h .stage))) (le-leb _ _ (h .mode)))
+    (le-leb _ _ (h .gains)))
+    (le-leb _ _ (h .signA)))
+    (le-leb _ _ (h .indexA)))
+    (le-leb _ _ (h .signB)))
+    (le-leb _ _ (h .indexB))
 
 -- a second stage by its nine numbers
 abbrev stage-of : ℕ → ℕ → ℕ → ℕ → ℕ → ℕ → ℕ → ℕ → ℕ → Sns
@@ -148,19 +164,20 @@ module _ (s : Sns) (e : snsPasses s ≡ true) where
   pub joint-low-24 : s .msb ≡ 1 → jointOf s < 16708096
   joint-low-24 z = subst (λ (m : ℕ). Fits m s) z fits .0
 
-  pub part-fits : partOf s < 2 ^ (1 + s .msb)
-  part-fits = by (s .msb) (sns-limits s e .stage) fits
-    where
-      by : (m : ℕ) → m ≤ 1 → Fits m s → partOf s < 2 ^ (1 + m)
-      by zero l h = h .1
-      by (suc zero) l h = h .1
-      by (suc (suc m)) l h = absurd (omega arith)
+  above : (m : ℕ) → eqb (suc m) 0 ≡ false
+  above m = ne-eqb (suc m) 0 (λ e. omega arith)
 
-  -- the joint index is below 2 to its width
-  pub joint-fits : jointOf s < 2 ^ (25 - s .msb)
-  joint-fits = by (s .msb) (sns-limits s e .stage) fits
+  -- the gain's part and the joint index are below 2 to their widths
+  pub part-fits : partOf s < 2 ^ partBits (s .msb)
+  part-fits = by (s .msb) fits
     where
-      by : (m : ℕ) → m ≤ 1 → Fits m s → jointOf s < 2 ^ (25 - m)
-      by zero l h = omega arith
-      by (suc zero) l h = omega arith
-      by (suc (suc m)) l h = absurd (omega arith)
+      by : (m : ℕ) → Fits m s → partOf s < 2 ^ partBits m
+      by zero h = h .1
+      by (suc m) h = rw (above m) (h .1)
+
+  pub joint-fits : jointOf s < 2 ^ jointBits (s .msb)
+  joint-fits = by (s .msb) fits
+    where
+      by : (m : ℕ) → Fits m s → jointOf s < 2 ^ jointBits m
+      by zero h = omega arith
+      by (suc m) h = rw (above m) (omega arith)

@@ -6,7 +6,7 @@ use mathlib.Core.Bool.{Bool, true, _&&_}
 use borrow.Author.Tests.{leb-true, eqb-true, le-leb, eq-eqb}
 use lib.Dec.{leb, eqb}
 use Rattle.common.proofs.Bools.{and-left, and-right, and-both}
-use Rattle.side_info.specs.Record.{mostIf, snsPasses, sidePasses}
+use Rattle.side_info.specs.Record.{ifThere, snsPasses, sidePasses}
 use Rattle.side_info.specs.declared.SideInfo.{SideInfo}
 
 -- the limits of a record that passes
@@ -18,11 +18,11 @@ pub record SideLimits (fs lines : ℕ) (s : SideInfo) : Type 0 where
   pub bit : s .lsb ≤ 1
   pub level : s .gain ≤ 255
   pub first : s .«tns_first» ≤ 1
-  pub second : s .«tns_second» ≤ mostIf (leb 3 (s .bandwidth)) 1
+  pub second : s .«tns_second» ≤ ifThere (leb 3 (s .bandwidth)) 1
   pub filter : s .pitch ≤ 1
   pub stages : snsPasses (s .sns) ≡ true
-  pub on-off : s .active ≤ mostIf (eqb (s .pitch) 1) 1
-  pub place : s .index ≤ mostIf (eqb (s .pitch) 1) 511
+  pub on-off : s .active ≤ ifThere (eqb (s .pitch) 1) 1
+  pub place : s .index ≤ ifThere (eqb (s .pitch) 1) 511
   pub noises : s .noise ≤ 7
 
 -- of two tests joined, each

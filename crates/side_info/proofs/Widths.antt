@@ -1,11 +1,15 @@
--- The widths of the bandwidth and of the last nonzero pair, as the code finds them, and that each is listed.
+-- The widths of the bandwidth, of the last nonzero pair, of the gain's part and of J, as the code finds them, and their limits.
 -- Assumes nothing.
 use Prim.Native.Nat.{ℕ, zero, suc, _+_, _-_, _/_, _≤_, _<_, _^_}
 use mathlib.Core.Path.{_≡_, refl, _∙_}
+use mathlib.Core.Bool.{true}
 use native.Mathlib.Omega.{arith}
 use native.Mathlib.Decide.{decLe}
 use borrow.Author.Tests.{le-leb, lt-leb}
-use Rattle.side_info.specs.Reader.{bandwidthBits, leastWidth, lastnzBits}
+use lib.Dec.{eqb}
+use Rattle.common.proofs.Bools.{by-test}
+use Rattle.buffer_reader.specs.Reads.{listed}
+use Rattle.side_info.specs.Reader.{bandwidthBits, leastWidth, lastnzBits, partBits, jointBits}
 
 pub bandwidth-low : (fs : ℕ) → fs < 3 → bandwidthBits fs ≡ fs
 bandwidth-low zero h = refl
@@ -63,3 +67,13 @@ module _ (ne : ℕ) (least : 60 ≤ ne) where
 
   pub lastnz-most : ne ≤ 400 → lastnzBits ne ≤ 8
   lastnz-most most = lastnz-range most .1
+
+-- of the gain's part and of J: what holds of both widths by msb 0, and of both by msb 1, holds
+pub by-msb : (P : ℕ → ℕ → Type 0) (msb : ℕ) → P 1 25 → P 2 24 → P (partBits msb) (jointBits msb)
+by-msb P msb zeros ones = by-test (eqb msb 0) (λ e. rw e zeros) (λ e. rw e ones)
+
+pub part-listed : (msb : ℕ) → listed (partBits msb) ≡ true
+part-listed msb = by-msb (λ part joint. listed part ≡ true) msb refl refl
+
+pub joint-listed : (msb : ℕ) → listed (jointBits msb) ≡ true
+joint-listed msb = by-msb (λ part joint. listed joint ≡ true) msb refl refl

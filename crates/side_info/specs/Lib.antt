@@ -3,3 +3,4 @@ pub mod Reader
 pub mod Record
 pub mod Layout
 pub mod Writer
+pub mod Private

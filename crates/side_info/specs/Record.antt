@@ -8,9 +8,9 @@ use lib.ListN.{getD}
 use Rattle.side_info.specs.declared.Sns.{Sns}
 use Rattle.side_info.specs.declared.SideInfo.{SideInfo}
 
--- the most that a field may hold, which is 0 where the field is absent
-abbrev pub mostIf : Bool → ℕ → ℕ
-mostIf present most = cond present most 0
+-- a field's largest value, or its width: 0 where the field is absent
+abbrev pub ifThere : Bool → ℕ → ℕ
+ifThere there n = cond there n 0
 
 -- shape = 2*msb + submode_lsb
 abbrev pub shapeOf : Sns → ℕ
@@ -34,27 +34,22 @@ snsPasses s =
     leb (s .gain) (gainMost (shapeOf s)) &&
     leb (s .«ls_inda») 1 &&
     leb (s .«idx_a») (idxMost (shapeOf s)) &&
-    leb (s .«ls_indb») (mostIf (eqb (shapeOf s) 0) 1) &&
-    leb (s .«idx_b») (mostIf (eqb (shapeOf s) 0) 5)
+    leb (s .«ls_indb») (ifThere (eqb (shapeOf s) 0) 1) &&
+    leb (s .«idx_b») (ifThere (eqb (shapeOf s) 0) 5)
 
--- bandwidth 0..fs_ind; lastnz even, 2..ne; lsb 0..1; gain 0..255
-abbrev pub openingPasses : ℕ → ℕ → SideInfo → Bool
-openingPasses fs ne s =
+-- bandwidth up to fs_ind; lastnz even, 2 to ne; the second TNS flag from bandwidth 3 on, active and index with pitch
+abbrev pub sidePasses : ℕ → ℕ → SideInfo → Bool
+sidePasses fs ne s =
     leb (s .bandwidth) fs &&
     eqb (s .lastnz % 2) 0 &&
     leb 2 (s .lastnz) &&
     leb (s .lastnz) ne &&
     leb (s .lsb) 1 &&
-    leb (s .gain) 255
-
--- the second TNS flag is there from bandwidth 3 on, active and index with pitch
-abbrev pub sidePasses : ℕ → ℕ → SideInfo → Bool
-sidePasses fs ne s =
-    openingPasses fs ne s &&
+    leb (s .gain) 255 &&
     leb (s .«tns_first») 1 &&
-    leb (s .«tns_second») (mostIf (leb 3 (s .bandwidth)) 1) &&
+    leb (s .«tns_second») (ifThere (leb 3 (s .bandwidth)) 1) &&
     leb (s .pitch) 1 &&
     snsPasses (s .sns) &&
-    leb (s .active) (mostIf (eqb (s .pitch) 1) 1) &&
-    leb (s .index) (mostIf (eqb (s .pitch) 1) 511) &&
+    leb (s .active) (ifThere (eqb (s .pitch) 1) 1) &&
+    leb (s .index) (ifThere (eqb (s .pitch) 1) 511) &&
     leb (s .noise) 7

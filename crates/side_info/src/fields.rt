@@ -1,8 +1,11 @@
 // One field of the side information each: a number and the next cursor, or the refusal.
 ghost use mathlib.Core.Path.{_≡_};
+ghost use mathlib.Core.Bool.{cond};
+ghost use lib.Dec.{eqb};
 ghost use Prim.Native.Nat.{_^_, _≤_, _<_};
 ghost use Rattle.side_info.specs.Joint.{snsOf, snsOf25};
-ghost use Rattle.side_info.specs.Reader.{numberOf, sideField, sideFlag, readBandwidth, readLastnz, readJoint, bandwidthBits};
+ghost use Rattle.side_info.specs.Reader.{sideField, sideFlag, readBandwidth, readLastnz, readJoint, bandwidthBits};
+ghost use Rattle.side_info.specs.Private.{numberOf};
 ghost use Rattle.side_info.specs.Reader.{lastnzBits as Reader·lastnzBits};
 ghost use Rattle.buffer_reader.specs.Steps.{ifPresent};
 use crate::Sns;
@@ -11,10 +14,9 @@ use buffer_reader::BitsRead;
 use buffer_reader::BufferError;
 use buffer_reader::Cursor;
 
-// Why the side information is refused, with the numbers of document 01; a buffer's refusal stands in the step `side`.
+// Why the side information is refused, with the numbers of document 01; a buffer's 9 stands in the step `side`.
 pub enum SideInfoError {
     OutsideLimits,
-    WrongLength(usize),
     BandwidthIdxOutOfRange(u32),
     LastNonZeroTupleGreaterThanYLen(u32, usize),
     PlcTriggerSns1OutOfRange(u32),
@@ -128,12 +130,18 @@ pub(crate) fn lastnz(buf: &[u8], at: Cursor, ne: usize) -> NumberRead
     }
 }
 
-// The joint index, 25 bits or 24, below its limit.
+// One number by msb 0, another by msb 1.
+pub(crate) fn by_msb(msb: u32, zero: usize, one: usize) -> usize
+    ensures { λ r. ⌜ r ≡ cond (eqb msb 0) zero one ⌝ }
+{
+    if msb == 0 { zero } else { one }
+}
+
+// The joint index, below its limit.
 pub(crate) fn joint(buf: &[u8], at: Cursor, msb: u32) -> NumberRead
-    requires { ⌜ msb ≤ 1 ⌝ }
     ensures { λ r. ⌜ numberOf r ≡ readJoint msb (now (buf .entry)) at ⌝ }
 {
-    match field(buf, at, 25 - msb as usize) {
+    match field(buf, at, by_msb(msb, 25, 24)) {
         NumberRead::Refused(e) => NumberRead::Refused(e),
         NumberRead::Number(v, c) => {
             if msb == 0 {

@@ -2,7 +2,7 @@
 ghost use mathlib.Core.Path.{_≡_};
 ghost use mathlib.Core.Bool.{_&&_};
 ghost use Prim.Native.Nat.{_≤_};
-ghost use Rattle.side_info.specs.Record.{mostIf, gainMost, idxMost, snsPasses, openingPasses, sidePasses};
+ghost use Rattle.side_info.specs.Record.{ifThere, gainMost, idxMost, snsPasses, sidePasses};
 use crate::SideInfo;
 use crate::Sns;
 
@@ -12,11 +12,11 @@ fn both(a: bool, b: bool) -> bool
     if a { b } else { false }
 }
 
-// The most that a field may hold: 0 where it is absent.
-pub(crate) fn most_if(present: bool, most: u32) -> u32
-    ensures { λ r. ⌜ r ≡ mostIf present most ⌝ }
+// A field's largest value, or its width: 0 where the field is absent.
+pub(crate) fn if_there(there: bool, n: u32) -> u32
+    ensures { λ r. ⌜ r ≡ ifThere there n ⌝ }
 {
-    if present { most } else { 0 }
+    if there { n } else { 0 }
 }
 
 fn gain_most(shape: u32) -> u32
@@ -56,37 +56,26 @@ pub(crate) fn sns_passes(s: Sns) -> bool
     let first = both(both(indices, s.gain <= gain_most(shape)), s.ls_inda <= 1);
     let second = both(
         both(first, s.idx_a <= idx_most(shape)),
-        s.ls_indb <= most_if(shape == 0, 1),
+        s.ls_indb <= if_there(shape == 0, 1),
     );
-    both(second, s.idx_b <= most_if(shape == 0, 5))
-}
-
-fn opening_passes(s: SideInfo, fs_ind: usize, ne: usize) -> bool
-    ensures { λ r. ⌜ r ≡ openingPasses «fs_ind» ne s ⌝ }
-{
-    let lastnz = both(
-        both(s.bandwidth as usize <= fs_ind, s.lastnz % 2 == 0),
-        2 <= s.lastnz,
-    );
-    both(
-        both(both(lastnz, s.lastnz as usize <= ne), s.lsb <= 1),
-        s.gain <= 255,
-    )
+    both(second, s.idx_b <= if_there(shape == 0, 5))
 }
 
 pub(crate) fn side_passes(s: SideInfo, fs_ind: usize, ne: usize) -> bool
     ensures { λ r. ⌜ r ≡ sidePasses «fs_ind» ne s ⌝ }
 {
     let sns = s.sns;
-    let opening = opening_passes(s, fs_ind, ne);
+    let even = both(s.bandwidth as usize <= fs_ind, s.lastnz % 2 == 0);
+    let lastnz = both(both(even, 2 <= s.lastnz), s.lastnz as usize <= ne);
+    let level = both(both(lastnz, s.lsb <= 1), s.gain <= 255);
     let flags = both(
-        both(opening, s.tns_first <= 1),
-        s.tns_second <= most_if(3 <= s.bandwidth, 1),
+        both(level, s.tns_first <= 1),
+        s.tns_second <= if_there(3 <= s.bandwidth, 1),
     );
     let stage = both(both(flags, s.pitch <= 1), sns_passes(sns));
     let filter = both(
-        both(stage, s.active <= most_if(s.pitch == 1, 1)),
-        s.index <= most_if(s.pitch == 1, 511),
+        both(stage, s.active <= if_there(s.pitch == 1, 1)),
+        s.index <= if_there(s.pitch == 1, 511),
     );
     both(filter, s.noise <= 7)
 }

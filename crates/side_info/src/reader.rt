@@ -2,15 +2,17 @@
 // has to the one that reads on.
 ghost use mathlib.Core.Path.{_≡_};
 ghost use Prim.Native.Nat.{_≤_};
-ghost use Rattle.side_info.specs.Reader.{sideOf, readSide, readAll, fromLevel, fromFlags, fromSns, fromShape, fromFilter};
+ghost use Rattle.side_info.specs.Reader.{sideOf, readSide, readAll};
+ghost use Rattle.side_info.specs.Private.{fromLevel, fromFlags, fromSns, fromShape, fromFilter};
 use crate::SideInfo;
 use crate::Sns;
 use crate::fields;
 use crate::fields::NumberRead;
 use crate::fields::SideInfoError;
+use buffer_reader::BufferError;
 use buffer_reader::Cursor;
 use common::configuration::Configuration;
-use common::configuration::Lines;
+use common::configuration::FrameLines;
 
 pub enum SideRead {
     Side(SideInfo, Cursor),
@@ -35,16 +37,11 @@ pub(crate) struct Flags {
 pub fn read(buf: &[u8], at: Cursor, configuration: Configuration) -> SideRead
     ensures { λ r. ⌜ sideOf r ≡ readSide configuration (now (buf .entry)) at ⌝ }
 {
-    let lines = configuration.lines();
-    match lines {
-        Lines::OutsideLimits => SideRead::Refused(SideInfoError::OutsideLimits),
-        Lines::Encoded(ne) => {
-            let len = buf.len();
-            if !common::inner::frame_length(len) {
-                return SideRead::Refused(SideInfoError::WrongLength(len));
-            }
-            read_all(buf, at, configuration.fs_ind, ne)
-        }
+    match configuration.frame_lines(buf.len()) {
+        FrameLines::OutsideLimits => SideRead::Refused(SideInfoError::OutsideLimits),
+        FrameLines::WrongLength(len) =>
+            SideRead::Refused(SideInfoError::Buffer(BufferError::WrongLength(len))),
+        FrameLines::Encoded(ne) => read_all(buf, at, configuration.fs_ind, ne),
     }
 }
 
@@ -130,10 +127,9 @@ fn from_shape(
     hf: u32,
     msb: u32,
 ) -> SideRead
-    requires { ⌜ msb ≤ 1 ⌝ }
     ensures { λ r. ⌜ sideOf r ≡ fromShape opening flags lf hf msb (now (buf .entry)) at ⌝ }
 {
-    match fields::field(buf, at, 1 + msb as usize) {
+    match fields::field(buf, at, fields::by_msb(msb, 1, 2)) {
         NumberRead::Refused(e) => SideRead::Refused(e),
         NumberRead::Number(part, c) => match fields::flag(buf, c) {
             NumberRead::Refused(e) => SideRead::Refused(e),

@@ -4,24 +4,24 @@ ghost use mathlib.Core.Bool.{true, _&&_};
 ghost use lib.Dec.{leb, ltb};
 ghost use Prim.Native.Nat.{_+_, _*_, _≤_};
 ghost use lib.ListN.{length};
-ghost use Rattle.common.specs.Tables.{total};
 ghost use Rattle.side_info.specs.Joint.{partOf, jointOf};
 ghost use Rattle.side_info.specs.Record.{snsPasses, sidePasses};
-ghost use Rattle.side_info.specs.Layout.{sideValues, sideWidths, roomFor, putFields};
-ghost use Rattle.side_info.specs.Writer.{writtenOf, roomOf, writeSide, sideWritten, writeFields, fieldsWritten};
+ghost use Rattle.side_info.specs.Layout.{sideFields, lengthOf, roomFor, putFields};
+ghost use Rattle.side_info.specs.Writer.{writtenOf, writeSide, sideWritten};
+ghost use Rattle.side_info.specs.Private.{roomOf, writeFields, fieldsWritten};
 use crate::SideInfo;
 use crate::Sns;
 use crate::fields;
 use crate::limits;
+use buffer_reader::BufferError;
 use buffer_reader::Cursor;
 use common::configuration::Configuration;
-use common::configuration::Lines;
+use common::configuration::FrameLines;
 
 pub enum SideWriteError {
     OutsideLimits,
-    WrongLength(usize),
     FieldOutside,
-    NoTailRoom(usize, usize),
+    Buffer(BufferError),
 }
 
 pub enum SideWritten {
@@ -29,16 +29,13 @@ pub enum SideWritten {
     Refused(SideWriteError),
 }
 
-// The fields in order from the tail.
-pub(crate) struct FieldList {
-    pub values: [u32; 16],
-    pub widths: [usize; 16],
-}
+// A field's width, 0 where it is absent, and the number in it.
+pub(crate) struct Field(pub usize, pub u32);
 
-// The tail behind the fields, or the first that has no room.
+// The tail behind the fields, or refusal 9 for the first that has no room.
 pub(crate) enum Room {
     Fits(usize),
-    NoTailRoom(usize, usize),
+    Refused(BufferError),
 }
 
 // Writes a record at a cursor of a frame of 20 to 400 bytes.
@@ -51,14 +48,11 @@ pub fn write(
     ensures answer { λ r. ⌜ writtenOf r ≡ writeSide configuration side (now (buf .entry)) at ⌝ }
     ensures lent { λ _. ⌜ now (buf .exit) ≡ sideWritten configuration side (now (buf .entry)) at ⌝ }
 {
-    let lines = configuration.lines();
-    match lines {
-        Lines::OutsideLimits => SideWritten::Refused(SideWriteError::OutsideLimits),
-        Lines::Encoded(ne) => {
-            let len = buf.len();
-            if !common::inner::frame_length(len) {
-                return SideWritten::Refused(SideWriteError::WrongLength(len));
-            }
+    match configuration.frame_lines(buf.len()) {
+        FrameLines::OutsideLimits => SideWritten::Refused(SideWriteError::OutsideLimits),
+        FrameLines::WrongLength(len) =>
+            SideWritten::Refused(SideWriteError::Buffer(BufferError::WrongLength(len))),
+        FrameLines::Encoded(ne) => {
             if !limits::side_passes(side, configuration.fs_ind, ne) {
                 return SideWritten::Refused(SideWriteError::FieldOutside);
             }
@@ -68,22 +62,17 @@ pub fn write(
     }
 }
 
-fn write_fields(buf: &mut [u8], at: Cursor, fields: FieldList) -> SideWritten
-    requires { ⌜ (length (now buf) ≤ 400) × (1 ≤ total (fields .widths)) × (length (fields .values) ≡ 16) × (length (fields .widths) ≡ 16) ⌝ }
-    ensures answer { λ r. ⌜ writtenOf r ≡ writeFields (fields .widths) (now (buf .entry)) at ⌝ }
-    ensures lent { λ _. ⌜ now (buf .exit) ≡ fieldsWritten (fields .values) (fields .widths) (now (buf .entry)) at ⌝ }
+fn write_fields(buf: &mut [u8], at: Cursor, fields: [Field; 16]) -> SideWritten
+    requires { ⌜ (length (now buf) ≤ 400) × (1 ≤ lengthOf fields) × (length fields ≡ 16) ⌝ }
+    ensures answer { λ r. ⌜ writtenOf r ≡ writeFields fields (now (buf .entry)) at ⌝ }
+    ensures lent { λ _. ⌜ now (buf .exit) ≡ fieldsWritten fields (now (buf .entry)) at ⌝ }
 {
     let place = at.tail;
-    let values = fields.values;
-    let widths = fields.widths;
-    let found = room_for(8 * buf.len(), place, &widths);
+    let found = room_for(8 * buf.len(), place, fields);
     match found {
-        Room::NoTailRoom(width, bit_index) => SideWritten::Refused(SideWriteError::NoTailRoom(
-            width,
-            bit_index,
-        )),
+        Room::Refused(e) => SideWritten::Refused(SideWriteError::Buffer(e)),
         Room::Fits(tail) => {
-            put_fields(buf, place, &values, &widths);
+            put_fields(buf, place, fields);
             SideWritten::At(Cursor {
                 head: at.head,
                 tail,
@@ -92,16 +81,17 @@ fn write_fields(buf: &mut [u8], at: Cursor, fields: FieldList) -> SideWritten
     }
 }
 
-fn room_for(bits: usize, place: usize, widths: &[usize; 16]) -> Room
-    requires { ⌜ length (now widths) ≡ 16 ⌝ }
-    ensures { λ r. ⌜ roomOf r ≡ roomFor bits place (now (widths .entry)) ⌝ }
+fn room_for(bits: usize, place: usize, fields: [Field; 16]) -> Room
+    requires { ⌜ length fields ≡ 16 ⌝ }
+    ensures { λ r. ⌜ roomOf r ≡ roomFor bits place fields ⌝ }
 {
     let mut tail = place;
     let mut i = 0;
     while i < 16 {
-        let width = widths[i];
+        let field = fields[i];
+        let width = field.0;
         if passes_start(bits, tail, width) {
-            return Room::NoTailRoom(width, tail % 8);
+            return Room::Refused(buffer_reader::inner::no_tail_room(width, tail));
         }
         tail += width;
         i += 1;
@@ -119,16 +109,16 @@ fn passes_start(bits: usize, tail: usize, width: usize) -> bool
     buffer_writer::inner::beyond(bits, tail, width)
 }
 
-fn put_fields(buf: &mut [u8], place: usize, values: &[u32; 16], widths: &[usize; 16])
-    requires { ⌜ (length (now buf) ≤ 400) × (place + total (now widths) ≤ 8 * length (now buf)) × (length (now values) ≡ 16) × (length (now widths) ≡ 16) ⌝ }
-    ensures { λ _. ⌜ now (buf .exit) ≡ putFields (now (buf .entry)) place (now (values .entry)) (now (widths .entry)) ⌝ }
+fn put_fields(buf: &mut [u8], place: usize, fields: [Field; 16])
+    requires { ⌜ (length (now buf) ≤ 400) × (place + lengthOf fields ≤ 8 * length (now buf)) × (length fields ≡ 16) ⌝ }
+    ensures { λ _. ⌜ now (buf .exit) ≡ putFields (now (buf .entry)) place fields ⌝ }
 {
     let mut at = place;
     let mut i = 0;
     while i < 16 {
-        let width = widths[i];
-        let value = values[i];
-        buffer_writer::inner::put_field(buf, at, value, width);
+        let field = fields[i];
+        let width = field.0;
+        buffer_writer::inner::put_field(buf, at, field.1, width);
         at += width;
         i += 1;
     }
@@ -161,55 +151,36 @@ fn joint_of(s: Sns) -> u32
     }
 }
 
-fn fields_of(s: SideInfo, fs_ind: usize, ne: usize) -> FieldList
+fn fields_of(s: SideInfo, fs_ind: usize, ne: usize) -> [Field; 16]
     requires { ⌜ («fs_ind» ≤ 4) × (60 ≤ ne) × (ne ≤ 400) × (sidePasses «fs_ind» ne s ≡ true) ⌝ }
-    ensures { λ r. ⌜ (r .values ≡ sideValues s) × (r .widths ≡ sideWidths «fs_ind» ne s) ⌝ }
+    ensures { λ r. ⌜ r ≡ sideFields «fs_ind» ne s ⌝ }
 {
     let sns = s.sns;
-    let msb = sns.msb as usize;
-    let second = limits::most_if(3 <= s.bandwidth, 1) as usize;
-    let active = limits::most_if(s.pitch == 1, 1) as usize;
-    let index = limits::most_if(s.pitch == 1, 9) as usize;
+    let second = limits::if_there(3 <= s.bandwidth, 1) as usize;
+    let active = limits::if_there(s.pitch == 1, 1) as usize;
+    let index = limits::if_there(s.pitch == 1, 9) as usize;
     let part = part_of(sns);
     let joint = joint_of(sns);
+    let part_bits = fields::by_msb(sns.msb, 1, 2);
+    let joint_bits = fields::by_msb(sns.msb, 25, 24);
     let bandwidth_bits = fields::bandwidth_bits(fs_ind);
     let lastnz_bits = fields::lastnz_bits(ne);
-    FieldList {
-        values: [
-            s.bandwidth,
-            s.lastnz / 2 - 1,
-            s.lsb,
-            s.gain,
-            s.tns_first,
-            s.tns_second,
-            s.pitch,
-            sns.lf,
-            sns.hf,
-            sns.msb,
-            part,
-            sns.ls_inda,
-            joint,
-            s.active,
-            s.index,
-            s.noise,
-        ],
-        widths: [
-            bandwidth_bits,
-            lastnz_bits,
-            1,
-            8,
-            1,
-            second,
-            1,
-            5,
-            5,
-            1,
-            1 + msb,
-            1,
-            25 - msb,
-            active,
-            index,
-            3,
-        ],
-    }
+    [
+        Field(bandwidth_bits, s.bandwidth),
+        Field(lastnz_bits, s.lastnz / 2 - 1),
+        Field(1, s.lsb),
+        Field(8, s.gain),
+        Field(1, s.tns_first),
+        Field(second, s.tns_second),
+        Field(1, s.pitch),
+        Field(5, sns.lf),
+        Field(5, sns.hf),
+        Field(1, sns.msb),
+        Field(part_bits, part),
+        Field(1, sns.ls_inda),
+        Field(joint_bits, joint),
+        Field(active, s.active),
+        Field(index, s.index),
+        Field(3, s.noise),
+    ]
 }

@@ -8,7 +8,8 @@ use borrow.Author.Tests.{lt-ltb, le-ltb, eq-eqb, ne-eqb}
 use lib.Dec.{eqb, leb}
 use Rattle.common.proofs.Bools.{and-first-fails, and-second-fails, and-first-holds}
 use Rattle.contexts.specs.Contexts.{escapes, escapeSymbol, pairSymbol}
-use Rattle.spectral_quantization.specs.Estimate.{wholeBits, isZero, tailCost, signCost, symbolCost, escapesCost, pairCost, oneSign, leastBits, keeps}
+use Rattle.spectral_quantization.specs.Estimate.{wholeBits, sumBelow, isZero, tailCost, signCost, symbolCost, escapesCost, pairCost, oneSign, leastBits}
+use Rattle.spectral_quantization.specs.Private.{keeps}
 
 -- a pair is all zero: the first line is judged before the second
 pub zero-fails : (a b : ℕ) → (a ≡ 0 → ⊥) → isZero a b ≡ false
@@ -64,11 +65,11 @@ keeps-decides target a b sum z = rw z refl
 -- the escapes of a pair, one more at a time, and the pair
 module _ (lookup bits : List ℕ) (mode : Bool) (t : ℕ) where
   pub escapes-none : escapesCost lookup bits mode t 0 ≡ 0
-  unfolding escapesCost
+  unfolding sumBelow
   escapes-none = refl
 
   pub escapes-more : (n : ℕ) → escapesCost lookup bits mode t (n + 1) ≡ escapesCost lookup bits mode t n + (symbolCost lookup bits t n escapeSymbol + tailCost mode n)
-  unfolding escapesCost
+  unfolding sumBelow
   escapes-more n = rw add-one refl
 
   -- a pair, by its number of escapes

@@ -1,18 +1,19 @@
 -- One pair more: the running numbers behind it, by what the parts of the step found, and how far they have come.
 -- Assumes nothing.
-use Prim.Native.Nat.{ℕ, _+_, _*_, _≤_}
-use mathlib.Core.Path.{_≡_, refl, ap, _∙_}
+use Prim.Native.Nat.{ℕ, suc, _+_, _*_, _≤_, max}
+use mathlib.Core.Path.{_≡_, refl}
 use mathlib.Core.Bool.{true, false}
 use mathlib.Core.List.{List}
 use native.Mathlib.Omega.{arith}
 use native.Mathlib.Numerals.{add-one}
-use lib.ListN.{getD}
+use Rattle.common.proofs.Bools.{by-test}
 use Rattle.contexts.specs.Contexts.{lookupStart, contextBehind}
 use Rattle.contexts.proofs.Lookups.{behind-most}
 use Rattle.spectral_quantization.specs.declared.estimate.BitConsumption.{BitConsumption}
 use Rattle.spectral_quantization.specs.declared.estimate.Frame.{Frame}
 use Rattle.spectral_quantization.specs.declared.estimate.Running.{Running}
-use Rattle.spectral_quantization.specs.Estimate.{wholeBits, pairCost, leastBits, keeps, beforeAll, onPair, behind, pairsOf, numbersOf, consumption, Bounded}
+use Rattle.spectral_quantization.specs.Estimate.{wholeBits, sumBelow, upToLast, pairCost, leastBits, first, second, pairsOf, contextAt, kept, consumption}
+use Rattle.spectral_quantization.specs.Private.{keeps, runningAt, onPair, Bounded}
 
 -- what the parts of the step found: where the lookup begins, the pair's cost, its least bits and the context behind it
 pub record Found (lookup bits : List ℕ) (f : Frame) (p a b : ℕ) (s : Running) (cost least context : ℕ) : Type 0 where
@@ -61,19 +62,25 @@ module _ (lookup bits : List ℕ) (f : Frame) (p a b : ℕ) (s : Running) (cost 
         }
 
 -- before the first pair, and behind one pair more
+abbrev pub beforeAll : Running
+beforeAll = record { sum = 0; least = 0; place = 2; kept = 0; context = 0 }
+
 pub start-bounded : Bounded 0 beforeAll
 start-bounded = record { sum = omega arith; kept = omega arith; least = omega arith; context = omega arith }
 
 module _ (lookup bits : List ℕ) (f : Frame) (xs : List ℕ) where
-  pub behind-none : beforeAll ≡ behind lookup bits f xs 0
-  unfolding behind
-  behind-none = refl
+  pub running-none : beforeAll ≡ runningAt lookup bits f xs 0
+  unfolding sumBelow upToLast contextAt
+  running-none = refl
 
-  pub behind-more : (p : ℕ) → behind lookup bits f xs (p + 1) ≡ onPair lookup bits f p (getD xs (2 * p) 0) (getD xs (2 * p + 1) 0) (behind lookup bits f xs p)
-  unfolding behind
-  behind-more p = rw add-one refl
+  pub running-more : (p : ℕ) → runningAt lookup bits f xs (p + 1) ≡ onPair lookup bits f p (first xs p) (second xs p) (runningAt lookup bits f xs p)
+  unfolding sumBelow upToLast contextAt onPair
+  running-more p =
+      let lines : 2 * max 1 (suc p) ≡ 2 * p + 2 = omega arith in
+      by-test (kept xs lookup bits (f .ne) (f .rate) (f .mode) (f .target) p)
+      (λ t. rw (add-one, onPair, t, ← lines) refl)
+      (λ t. rw (add-one, onPair, t) refl)
 
   -- the numbers returned, by what was found on the way
-  pub numbers-are : (pairs whole trunc : ℕ) (s : Running) → pairs ≡ pairsOf xs → s ≡ behind lookup bits f xs pairs → whole ≡ wholeBits (s .sum) → trunc ≡ wholeBits (s .kept) → _≡_ {A = BitConsumption} (record { «rate_flag» = f .rate; «mode_flag» = f .mode; lastnz = 2 * pairs; «lastnz_trunc» = s .place; «nbits_est» = whole + s .least; «nbits_trunc» = trunc; «nbits_lsb» = s .least }) (consumption lookup bits f xs)
-  numbers-are pairs whole trunc s n e w t =
-      rw (w, t) refl ∙ ap (numbersOf f pairs) e ∙ ap (λ (k : ℕ). numbersOf f k (behind lookup bits f xs k)) n
+  pub numbers-are : (pairs whole trunc : ℕ) (s : Running) → pairs ≡ pairsOf xs → s ≡ runningAt lookup bits f xs pairs → whole ≡ wholeBits (s .sum) → trunc ≡ wholeBits (s .kept) → _≡_ {A = BitConsumption} (record { «rate_flag» = f .rate; «mode_flag» = f .mode; lastnz = 2 * pairs; «lastnz_trunc» = s .place; «nbits_est» = whole + s .least; «nbits_trunc» = trunc; «nbits_lsb» = s .least }) (consumption xs lookup bits (f .ne) (f .rate) (f .mode) (f .target))
+  numbers-are pairs whole trunc s n e w t = rw (w, t, e, n) refl

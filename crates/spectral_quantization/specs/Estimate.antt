@@ -1,21 +1,17 @@
 -- Document 01, "Floats" and "Numbered replies": the bit estimate, by the source's sums over the pairs of lines.
 -- Costs are in 2,048ths of a bit. Context, escapes and symbol are those that the frame is read and written by.
-use Prim.Native.Nat.{ℕ, zero, suc, _+_, _*_, _/_, _≤_}
-use mathlib.Core.Path.{_≡_}
-use mathlib.Core.Bool.{Bool, true, cond, not, _&&_}
+use Prim.Native.Nat.{ℕ, zero, suc, _+_, _*_, _/_, max}
+use mathlib.Core.Bool.{Bool, cond, not, _&&_}
 use mathlib.Core.List.{List}
 use lib.Dec.{leb, ltb, eqb}
 use lib.ListN.{length, getD}
 use lib.IntN.{ℤ}
-use Rattle.common.specs.Configuration.{configurationPasses, ne, frameLength}
-use Rattle.common.specs.Last.{lastBelow}
-use Rattle.common.specs.Reply.{Reply, Answer, accepted, refused, given, outsideLimits, wrongLength, tablesFail, wrongCount}
-use Rattle.common.specs.Tables.{Tables, lookupPasses, tablesPass}
+use Rattle.common.specs.Configuration.{frameLines}
+use Rattle.common.specs.Reply.{Reply, Answer, accepted, refused, given, andThen, outsideLimits, wrongLength, tablesFail, wrongCount}
+use Rattle.common.specs.Tables.{Tables, tablesPass}
 use Rattle.common.specs.declared.configuration.Configuration.{Configuration}
 use Rattle.contexts.specs.Contexts.{rateFlag, lookupStart, rowOf, magnitudes, escapes, escapeSymbol, pairSymbol, contextBehind}
 use Rattle.spectral_quantization.specs.declared.estimate.BitConsumption.{BitConsumption}
-use Rattle.spectral_quantization.specs.declared.estimate.Frame.{Frame}
-use Rattle.spectral_quantization.specs.declared.estimate.Running.{Running}
 use Rattle.spectral_quantization.specs.declared.estimate.EstimateError.{EstimateError}
 use Rattle.spectral_quantization.specs.declared.estimate.EstimateError.the-variants.{OutsideLimits, WrongLength, TablesFail, WrongCount}
 use Rattle.spectral_quantization.specs.declared.estimate.Estimated.{Estimated}
@@ -28,6 +24,18 @@ wholeBits sum = (sum + 2047) / 2048
 -- the source's `mode_flag`: the frame is long enough for least-bit mode
 abbrev pub modeFlag : ℕ → ℕ → Bool
 modeFlag bits fs = leb (480 + 160 * fs) bits
+
+-- the sum of the first n numbers
+unfoldable pub sumBelow : (ℕ → ℕ) → ℕ → ℕ
+sumBelow number zero = 0
+sumBelow number (suc n) = sumBelow number n + number n
+
+-- how many of the first n there are up to the last at which the test holds; 0 if it holds at none
+unfoldable pub upToLast : (ℕ → Bool) → ℕ → ℕ
+upToLast holds zero = 0
+upToLast holds (suc n) = cond (holds n) (suc n) (upToLast holds n)
+
+-- ---- one pair of magnitudes
 
 -- the two tail bits of an escape; where the mode flag is set, the first escape's are least bits
 abbrev pub tailCost : Bool → ℕ → ℕ
@@ -43,11 +51,10 @@ module _ (lookup bits : List ℕ) where
   symbolCost t level symbol = getD bits (17 * rowOf lookup t level + symbol) 0
 
   -- the first n levels, each escaped
-  unfoldable pub escapesCost : Bool → ℕ → ℕ → ℕ
-  escapesCost mode t zero = 0
-  escapesCost mode t (suc n) = escapesCost mode t n + (symbolCost t n escapeSymbol + tailCost mode n)
+  abbrev pub escapesCost : Bool → ℕ → ℕ → ℕ
+  escapesCost mode t n = sumBelow (λ level. symbolCost t level escapeSymbol + tailCost mode level) n
 
-  -- a pair of magnitudes: its escapes, its symbol, its signs
+  -- its escapes, its symbol, its signs
   unfoldable pub pairCost : Bool → ℕ → ℕ → ℕ → ℕ
   pairCost mode t a b =
       escapesCost mode t (escapes a b) + symbolCost t (escapes a b) (pairSymbol a b) + signCost a + signCost b
@@ -60,95 +67,73 @@ oneSign a = cond (eqb a 1) 1 0
 unfoldable pub leastBits : Bool → ℕ → ℕ → ℕ
 leastBits mode a b = cond (mode && ltb 0 (escapes a b)) (2 + oneSign a + oneSign b) 0
 
--- a pair that is all zero
 abbrev pub isZero : ℕ → ℕ → Bool
 isZero a b = eqb a 0 && eqb b 0
 
--- the target is not passed yet: a pair that is not all zero is kept
-abbrev pub keeps : ℕ → ℕ → ℕ → ℕ → Bool
-keeps target a b sum = not (isZero a b) && leb (wholeBits sum) target
+-- ---- the pairs of all magnitudes
 
--- the running numbers before the first pair: nothing summed, two lines kept, context 0
-abbrev pub beforeAll : Running
-beforeAll = record { sum = 0; least = 0; place = 2; kept = 0; context = 0 }
+module _ (xs : List ℕ) where
+  abbrev pub first : ℕ → ℕ
+  first p = getD xs (2 * p) 0
 
-module _ (lookup bits : List ℕ) (f : Frame) where
-  -- the sum behind the p-th pair
-  abbrev pub grown : ℕ → ℕ → ℕ → Running → ℕ
-  grown p a b s =
-      s .sum + pairCost lookup bits (f .mode) (lookupStart (s .context) (f .rate) (f .ne) (2 * p)) a b
+  abbrev pub second : ℕ → ℕ
+  second p = getD xs (2 * p + 1) 0
 
-  -- the running numbers behind it
-  unfoldable pub onPair : ℕ → ℕ → ℕ → Running → Running
-  onPair p a b s =
-      record {
-        sum = grown p a b s;
-        least = s .least + leastBits (f .mode) a b;
-        place = cond (keeps (f .target) a b (grown p a b s)) (2 * p + 2) (s .place);
-        kept = cond (keeps (f .target) a b (grown p a b s)) (grown p a b s) (s .kept);
-        context = contextBehind (s .context) a b;
-      }
+  abbrev pub zeroAt : ℕ → Bool
+  zeroAt p = isZero (first p) (second p)
 
-  -- and behind the first n pairs of these magnitudes
-  unfoldable pub behind : List ℕ → ℕ → Running
-  behind xs zero = beforeAll
-  behind xs (suc n) = onPair n (getD xs (2 * n) 0) (getD xs (2 * n + 1) 0) (behind xs n)
+  -- how many pairs there are up to the last that is not all zero, at least one
+  abbrev pub pairsOf : ℕ
+  pairsOf = max 1 (upToLast (λ p. not (zeroAt p)) (length xs / 2))
 
--- the last of the first n pairs that is not all zero; 0 if there is none
-abbrev pub lastPair : List ℕ → ℕ → ℕ
-lastPair xs n = lastBelow (λ p. not (isZero (getD xs (2 * p) 0) (getD xs (2 * p + 1) 0))) n
+  -- the source's `c` before a pair
+  unfoldable pub contextAt : ℕ → ℕ
+  contextAt zero = 0
+  contextAt (suc p) = contextBehind (contextAt p) (first p) (second p)
 
--- the pairs up to it, at least one: lastnz is twice as many
-abbrev pub pairsOf : List ℕ → ℕ
-pairsOf xs = lastPair xs (length xs / 2) + 1
+  -- `nbits_lsb` behind the first n pairs
+  abbrev pub leastOf : Bool → ℕ → ℕ
+  leastOf mode n = sumBelow (λ p. leastBits mode (first p) (second p)) n
 
--- the numbers that the source returns, by the running numbers behind those pairs
-abbrev pub numbersOf : Frame → ℕ → Running → BitConsumption
-numbersOf f pairs s =
-    record {
-      «rate_flag» = f .rate;
-      «mode_flag» = f .mode;
-      lastnz = 2 * pairs;
-      «lastnz_trunc» = s .place;
-      «nbits_est» = wholeBits (s .sum) + s .least;
-      «nbits_trunc» = wholeBits (s .kept);
-      «nbits_lsb» = s .least;
-    }
+  module _ (lookup bits : List ℕ) (ne rate : ℕ) (mode : Bool) where
+    -- `nbits_est_local` behind them: what they cost
+    abbrev pub costOf : ℕ → ℕ
+    costOf n =
+        sumBelow (λ p. pairCost lookup bits mode (lookupStart (contextAt p) rate ne (2 * p)) (first p) (second p)) n
 
-abbrev pub consumption : List ℕ → List ℕ → Frame → List ℕ → BitConsumption
-consumption lookup bits f xs = numbersOf f (pairsOf xs) (behind lookup bits f xs (pairsOf xs))
+    module _ (target : ℕ) where
+      -- a pair is kept if it is not all zero and the target is not passed behind it
+      abbrev pub kept : ℕ → Bool
+      kept p = not (zeroAt p) && leb (wholeBits (costOf (suc p))) target
 
--- what a frame of so many bytes is estimated by; "N is 8 times the frame length"
-abbrev pub frameOf : Configuration → ℕ → ℕ → Frame
-frameOf c bytes target =
-    record {
-      ne = ne (c .duration) (c .«fs_ind»);
-      rate = rateFlag (8 * bytes) (c .«fs_ind»);
-      mode = modeFlag (8 * bytes) (c .«fs_ind»);
-      target = target;
-    }
+      -- how many of the first n pairs there are up to the last that is kept
+      abbrev pub keptOf : ℕ → ℕ
+      keptOf n = upToLast kept n
 
--- "estimate and gain search 1, 2, 3, 4, as far as they take each": "target, here and in the estimate, 0..65535 (else 1)"
+      -- the numbers that the source returns
+      abbrev pub consumption : BitConsumption
+      consumption =
+          record {
+            «rate_flag» = rate;
+            «mode_flag» = mode;
+            lastnz = 2 * pairsOf;
+            «lastnz_trunc» = 2 * max 1 (keptOf pairsOf);
+            «nbits_est» = wholeBits (costOf pairsOf) + leastOf mode pairsOf;
+            «nbits_trunc» = wholeBits (costOf (keptOf pairsOf));
+            «nbits_lsb» = leastOf mode pairsOf;
+          }
+
+-- ---- the call
+
+-- "N is 8 times the frame length"; "estimate and gain search 1, 2, 3, 4, as far as they take each"; "target, here and in the
+-- estimate, 0..65535 (else 1)"
 abbrev pub estimate : Configuration → ℕ → Tables → ℕ → List ℤ → Answer BitConsumption
 estimate c bytes set target lines =
-    given (not (configurationPasses c)) outsideLimits
-    (given (ltb 65535 target) outsideLimits
-    (given (not (frameLength bytes)) (wrongLength bytes)
-    (given (not (tablesPass set)) tablesFail
-    (given (not (eqb (length lines) (ne (c .duration) (c .«fs_ind»)))) (wrongCount (length lines))
-    (accepted (consumption (set .lookup) (set .bits) (frameOf c bytes target) (magnitudes lines)))))))
-
--- what the sums go by without a check: the lookup passes, and the bits have their size
-pub record Rows (lookup bits : List ℕ) : Type 0 where
-  pub passes : lookupPasses lookup ≡ true
-  pub size : length bits ≡ 1088
-
--- how far the running numbers are behind so many pairs: 15 entries, 14 pairs of tail bits and two signs to a pair
-pub record Bounded (pairs : ℕ) (s : Running) : Type 0 where
-  pub sum : s .sum ≤ 1044465 * pairs
-  pub kept : s .kept ≤ 1044465 * pairs
-  pub least : s .least ≤ 4 * pairs
-  pub context : s .context ≤ 255
+    given (ltb 65535 target) outsideLimits
+    (andThen (frameLines c bytes) (λ ne.
+    given (not (tablesPass set)) tablesFail
+    (given (not (eqb (length lines) ne)) (wrongCount (length lines))
+    (accepted (consumption (magnitudes lines) (set .lookup) (set .bits) ne (rateFlag (8 * bytes) (c .«fs_ind»)) (modeFlag (8 * bytes) (c .«fs_ind»)) target)))))
 
 -- document 01's number and values of each refusal
 abbrev pub replyOf : EstimateError → Reply

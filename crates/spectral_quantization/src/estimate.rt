@@ -1,13 +1,14 @@
 // The bit estimate: a sum over the pairs of lines, in 2,048ths of a bit, by the contexts that the frame is written with.
 ghost use mathlib.Core.Path.{_≡_};
-ghost use mathlib.Core.Bool.{true};
 ghost use Prim.Native.Nat.{_+_, _*_, _≤_, _<_};
-ghost use lib.ListN.{length, getD};
-ghost use Rattle.common.specs.Configuration.{configurationPasses};
+ghost use lib.ListN.{length};
 ghost use Rattle.contexts.specs.Contexts.{magnitudes, escapes};
-ghost use Rattle.spectral_quantization.specs.Estimate.{wholeBits, tailCost, signCost, symbolCost, escapesCost, pairCost, oneSign, leastBits, isZero, onPair, behind, pairsOf, frameOf, estimate, Rows, Bounded, estimatedOf};
+ghost use Rattle.spectral_quantization.specs.Estimate.{wholeBits, tailCost, signCost, symbolCost, escapesCost, pairCost, oneSign, leastBits, isZero, zeroAt, pairsOf, estimate, estimatedOf};
 ghost use Rattle.spectral_quantization.specs.Estimate as Estimate;
+ghost use Rattle.spectral_quantization.specs.Private.{frameOf, Rows, runningAt, onPair, Bounded};
+ghost use Rattle.spectral_quantization.specs.Private as Private;
 use common::configuration::Configuration;
+use common::configuration::FrameLines;
 use contexts::inner;
 
 // All the numbers that the source returns.
@@ -65,34 +66,33 @@ pub fn compute_bit_consumption(
 ) -> Estimated
     ensures { λ r. ⌜ estimatedOf r ≡ estimate configuration bytes (record { lookup = now (lookup .entry); frequencies = now (frequencies .entry); bits = now (bits .entry); orders = now (orders .entry); coefficients = now (coefficients .entry) }) target (now (lines .entry)) ⌝ }
 {
-    if !configuration.passes() {
-        return Estimated::Refused(EstimateError::OutsideLimits);
-    }
     if 65535 < target {
         return Estimated::Refused(EstimateError::OutsideLimits);
     }
-    if !common::inner::frame_length(bytes) {
-        return Estimated::Refused(EstimateError::WrongLength(bytes));
+    match configuration.frame_lines(bytes) {
+        FrameLines::OutsideLimits => Estimated::Refused(EstimateError::OutsideLimits),
+        FrameLines::WrongLength(length) => Estimated::Refused(EstimateError::WrongLength(length)),
+        FrameLines::Encoded(ne) => {
+            if !common::tables::tables_pass(lookup, frequencies, bits, orders, coefficients) {
+                return Estimated::Refused(EstimateError::TablesFail);
+            }
+            let count = lines.len();
+            if count != ne {
+                return Estimated::Refused(EstimateError::WrongCount(count));
+            }
+            let frame = frame_of(configuration.fs_ind, bytes, ne, target);
+            Estimated::Bits(consumption(lookup, bits, frame, lines))
+        }
     }
-    if !common::tables::tables_pass(lookup, frequencies, bits, orders, coefficients) {
-        return Estimated::Refused(EstimateError::TablesFail);
-    }
-    let frame = frame_of(configuration, bytes, target);
-    let count = lines.len();
-    if count != frame.ne {
-        return Estimated::Refused(EstimateError::WrongCount(count));
-    }
-    Estimated::Bits(consumption(lookup, bits, frame, lines))
 }
 
 // What a frame of so many bytes is estimated by.
-fn frame_of(configuration: Configuration, bytes: usize, target: usize) -> Frame
-    requires { ⌜ (configurationPasses configuration ≡ true) × (bytes ≤ 400) ⌝ }
-    ensures { λ r. ⌜ r ≡ frameOf configuration bytes target ⌝ }
+fn frame_of(fs_ind: usize, bytes: usize, ne: usize, target: usize) -> Frame
+    requires { ⌜ («fs_ind» ≤ 4) × (bytes ≤ 400) ⌝ }
+    ensures { λ r. ⌜ r ≡ frameOf «fs_ind» bytes ne target ⌝ }
 {
-    let fs_ind = configuration.fs_ind;
     Frame {
-        ne: common::inner::ne(configuration.duration, fs_ind),
+        ne,
         rate: inner::rate_flag(8 * bytes, fs_ind),
         mode: 480 + 160 * fs_ind <= 8 * bytes,
         target,
@@ -101,7 +101,7 @@ fn frame_of(configuration: Configuration, bytes: usize, target: usize) -> Frame
 
 fn consumption(lookup: &[u8], bits: &[u16], frame: Frame, lines: &[i16]) -> BitConsumption
     requires { ⌜ Rows (now lookup) (now bits) × (frame .rate ≤ 512) × (60 ≤ length (now lines)) × (length (now lines) ≤ 400) ⌝ }
-    ensures { λ r. ⌜ r ≡ Estimate.consumption (now (lookup .entry)) (now (bits .entry)) frame (magnitudes (now (lines .entry))) ⌝ }
+    ensures { λ r. ⌜ r ≡ Estimate.consumption (magnitudes (now (lines .entry))) (now (lookup .entry)) (now (bits .entry)) (frame .ne) (frame .rate) (frame .mode) (frame .target) ⌝ }
 {
     let pairs = coded_pairs(lines);
     let s = run(lookup, bits, frame, lines, pairs);
@@ -134,7 +134,7 @@ fn coded_pairs(lines: &[i16]) -> usize
 
 fn pair_is_zero(lines: &[i16], p: usize) -> bool
     requires { ⌜ 2 * p + 1 < length (now lines) ⌝ }
-    ensures { λ r. ⌜ r ≡ isZero (getD (magnitudes (now (lines .entry))) (2 * p) 0) (getD (magnitudes (now (lines .entry))) (2 * p + 1) 0) ⌝ }
+    ensures { λ r. ⌜ r ≡ zeroAt (magnitudes (now (lines .entry))) p ⌝ }
 {
     let line = 2 * p;
     is_zero(
@@ -155,7 +155,7 @@ fn is_zero(a: usize, b: usize) -> bool
 // The running numbers behind so many pairs.
 fn run(lookup: &[u8], bits: &[u16], frame: Frame, lines: &[i16], pairs: usize) -> Running
     requires { ⌜ Rows (now lookup) (now bits) × (frame .rate ≤ 512) × (2 * pairs ≤ length (now lines)) × (length (now lines) ≤ 400) ⌝ }
-    ensures value { λ r. ⌜ r ≡ behind (now (lookup .entry)) (now (bits .entry)) frame (magnitudes (now (lines .entry))) pairs ⌝ }
+    ensures value { λ r. ⌜ r ≡ runningAt (now (lookup .entry)) (now (bits .entry)) frame (magnitudes (now (lines .entry))) pairs ⌝ }
     ensures bounds { λ r. ⌜ Bounded pairs r ⌝ }
 {
     let mut s = Running {
@@ -298,7 +298,7 @@ fn one_sign(a: usize) -> usize
 // Whether the lines up to this pair are kept.
 fn keeps(target: usize, a: usize, b: usize, sum: u32) -> bool
     requires { ⌜ sum ≤ 208893000 ⌝ }
-    ensures { λ r. ⌜ r ≡ Estimate.keeps target a b sum ⌝ }
+    ensures { λ r. ⌜ r ≡ Private.keeps target a b sum ⌝ }
 {
     if is_zero(a, b) {
         return false;

@@ -1,7 +1,8 @@
 // The search for the gain index: eight halvings, each judged by what the energies cost at its level.
 ghost use mathlib.Core.Path.{_≡_};
 ghost use Prim.Native.Nat.{_+_, _≤_};
-ghost use Rattle.spectral_quantization.specs.Gain.{gainOf, gainFor, searched, turn as Gain·turn, exceeds as Gain·exceeds, costAt, withEnergy};
+ghost use Rattle.spectral_quantization.specs.Gain.{gainOf, gainFor, searched, turn as Gain·turn, exceeds as Gain·exceeds};
+ghost use Rattle.spectral_quantization.specs.Private.{costOfAll, costWith};
 
 // The gain index, or refusal 1 or 4.
 pub enum GainSearch {
@@ -66,7 +67,7 @@ fn exceeds(energies: &[f32], level: f32, target: usize) -> bool
 }
 
 fn cost_at(energies: &[f32], level: f32) -> Cost
-    ensures { λ r. ⌜ r ≡ costAt level (now (energies .entry)) ⌝ }
+    ensures { λ r. ⌜ r ≡ costOfAll level (now (energies .entry)) ⌝ }
 {
     let n = energies.len();
     let mut left = n;
@@ -82,7 +83,7 @@ fn cost_at(energies: &[f32], level: f32) -> Cost
 }
 
 fn with_energy(level: f32, energy: f32, cost: Cost) -> Cost
-    ensures { λ r. ⌜ r ≡ withEnergy level energy cost ⌝ }
+    ensures { λ r. ⌜ r ≡ costWith level energy cost ⌝ }
 {
     if energy * 28.0 / 20.0 < level {
         if cost.zero {

@@ -4,7 +4,8 @@ use native.Mathlib.Omega.{arith}
 use borrow.Author.Tests.{ltb-true}
 use lib.Dec.{ltb}
 use Rattle.common.proofs.Bools.{by-test}
-use Rattle.range_encoder.specs.Encoder.{shiftsOf, symbolAdded, turn, encoded, Sound}
+use Rattle.range_encoder.specs.Encoder.{shiftsOf, symbolAdded, turn, encoded}
+use Rattle.range_encoder.specs.Private.{Sound}
 use Rattle.range_encoder.specs.declared.EncoderState.{EncoderState}
 use Rattle.range_encoder.proofs.States.{shifts-turn}
 use Rattle.range_encoder.proofs.Carry.{sound-encoded}

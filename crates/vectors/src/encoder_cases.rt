@@ -2,7 +2,8 @@
 // its place there, two bytes.
 ghost use Prim.Native.Nat.{_+_, _≤_};
 ghost use lib.ListN.{length};
-ghost use Rattle.range_encoder.specs.Encoder.{Sound, shiftsOf};
+ghost use Rattle.range_encoder.specs.Encoder.{shiftsOf};
+ghost use Rattle.range_encoder.specs.Private.{Sound};
 use crate::number::put_byte;
 use crate::number::put_eight;
 use crate::number::put_four;

@@ -39,7 +39,7 @@ pub(crate) fn of_buffer(why: BufferError, out: &mut [u8]) -> usize
     ensures { λ r. ⌜ r ≤ length (now (out .exit)) ⌝ }
 {
     match why {
-        BufferError::TooLong(len) => of_one(2, len, out),
+        BufferError::WrongLength(len) => of_one(2, len, out),
         BufferError::NoTailRoom(width, bit_index) => of_two(9, width, bit_index, out),
         BufferError::PastEnd(head) => of_one(10, head, out),
         BufferError::WidthNotListed(width) => of_one(17, width, out),

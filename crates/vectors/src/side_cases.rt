@@ -70,7 +70,6 @@ fn refused(why: SideInfoError, out: &mut [u8]) -> usize
 {
     match why {
         SideInfoError::OutsideLimits => refusal::of_none(1, out),
-        SideInfoError::WrongLength(len) => refusal::of_one(2, len, out),
         SideInfoError::BandwidthIdxOutOfRange(value) => refusal::of_one(5, word(value), out),
         SideInfoError::LastNonZeroTupleGreaterThanYLen(lastnz, ne) => {
             refusal::of_two(6, word(lastnz), ne, out)
@@ -107,8 +106,7 @@ fn write_refused(why: SideWriteError, out: &mut [u8]) -> usize
 {
     match why {
         SideWriteError::OutsideLimits => refusal::of_none(1, out),
-        SideWriteError::WrongLength(len) => refusal::of_one(2, len, out),
-        SideWriteError::NoTailRoom(width, bit_index) => refusal::of_two(9, width, bit_index, out),
         SideWriteError::FieldOutside => refusal::of_none(13, out),
+        SideWriteError::Buffer(why) => refusal::of_buffer(why, out),
     }
 }

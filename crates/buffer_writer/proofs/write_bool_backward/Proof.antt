@@ -27,10 +27,14 @@ mul-beyond c = search needs
 beyond-requires : tie.Need-beyond-requires
 beyond-requires c κs = search needs
 
+no-tail-room-requires : tie.Need-no-tail-room-requires
+no-tail-room-requires c κs = search needs
+
 returns-2 : tie.Need-returns-2
 returns-2 c =
-    let a = c .before .before .before .before .args in
-    bit-beyond (a .buf .now) (a .at) (a .bit) (c .before .before .if1 .left) (sym (c .before .beyond .ensures) ∙ c .if2 .taken)
+    let a = c .before .before .before .before .before .args in
+    rw (c .no-tail-room .ensures)
+    (bit-beyond (a .buf .now) (a .at) (a .bit) (c .before .before .before .if1 .left) (sym (c .before .before .beyond .ensures) ∙ c .before .if2 .taken))
 
 one-if-requires : tie.Need-one-if-requires
 one-if-requires c κs = search needs
@@ -57,6 +61,7 @@ write-bool-backward-spec =
     returns
     mul-beyond
     beyond-requires
+    no-tail-room-requires
     returns-2
     one-if-requires
     put-bit-requires

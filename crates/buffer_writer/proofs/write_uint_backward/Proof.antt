@@ -40,10 +40,14 @@ mul-beyond c = search needs
 beyond-requires : tie.Need-beyond-requires
 beyond-requires c κs = search needs
 
+no-tail-room-requires : tie.Need-no-tail-room-requires
+no-tail-room-requires c κs = search needs
+
 returns-3 : tie.Need-returns-3
 returns-3 c =
-    let a = c .before .before .before .before .before .before .args in
-    field-beyond (a .buf .now) (a .at) (a .val) (a .num-bits) (c .before .before .before .before .if1 .left) (width-ok (c .before .before)) (sym (c .before .beyond .ensures) ∙ c .if3 .taken)
+    let a = c .before .before .before .before .before .before .before .args in
+    rw (c .no-tail-room .ensures)
+    (field-beyond (a .buf .now) (a .at) (a .val) (a .num-bits) (c .before .before .before .before .before .if1 .left) (width-ok (c .before .before .before)) (sym (c .before .before .beyond .ensures) ∙ c .before .if3 .taken))
 
 put-field-requires : tie.Need-put-field-requires
 put-field-requires c κs = (c .before .before .before .before .before .if1 .left, room (c .before))
@@ -69,6 +73,7 @@ write-uint-backward-spec =
     returns-2
     mul-beyond
     beyond-requires
+    no-tail-room-requires
     returns-3
     put-field-requires
     add-t12

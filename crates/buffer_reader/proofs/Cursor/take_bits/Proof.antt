@@ -8,7 +8,7 @@ use native.Mathlib.Nat.{div-add-mod}
 use borrow.Author.Tests.{ltb-false}
 use lib.Dec.{ltb}
 use lib.ListN.{length}
-use Rattle.common.specs.Reply.{accepted}
+use Rattle.common.specs.Reply.{accepted, refused}
 use Rattle.common.proofs.Bools.{refuted, confirmed}
 use Rattle.buffer_reader.specs.Tail.{field}
 use Rattle.buffer_reader.specs.Reads.{listed, fieldBeyond}
@@ -53,10 +53,14 @@ bytes-wanted-requires c κs = (width-limits _ (width-ok c) .1, omega arith)
 field-beyond-requires : tie.Need-field-beyond-requires
 field-beyond-requires c κs = search needs
 
+no-tail-room-requires : tie.Need-no-tail-room-requires
+no-tail-room-requires c κs = search needs
+
 returns-3 : tie.Need-returns-3
 returns-3 c =
-    let a = c .before .before .before .before .before .before .before .before .before .args in
-    sym (bits-refused (a .buf .now) (a .self) (a .num-bits) (c .before .before .before .before .before .before .before .if1 .left) (width-ok (c .before .before .before)) (sym (judged (c .before)) ∙ c .if3 .taken))
+    let a = c .before .before .before .before .before .before .before .before .before .before .args in
+    ap refused (c .no-tail-room .ensures) ∙
+    sym (bits-refused (a .buf .now) (a .self) (a .num-bits) (c .before .before .before .before .before .before .before .before .if1 .left) (width-ok (c .before .before .before .before)) (sym (judged (c .before .before)) ∙ c .before .if3 .taken))
 
 field-requires : tie.Need-field-requires
 field-requires c κs =
@@ -85,6 +89,7 @@ take-bits-spec =
     returns-2
     bytes-wanted-requires
     field-beyond-requires
+    no-tail-room-requires
     returns-3
     field-requires
     add-t15

@@ -1,6 +1,11 @@
 -- `inner::put_bit` meets its contract: the one byte that holds the place is replaced.
 -- Assumes nothing.
-use mathlib.Core.Path.{refl}
+use Prim.Native.Nat.{ℕ, _-_, _/_, _%_, _<_}
+use mathlib.Core.Path.{sym, ap, _∙_}
+use native.Mathlib.Omega.{arith}
+use lib.ListN.{length, set}
+use Rattle.buffer_reader.proofs.Tails.{tail-byte-there}
+use Rattle.buffer_writer.specs.Writes.{withBit}
 use borrow.Author.Needs.{needs}
 use Rattle.buffer_writer.proofs.inner.put_bit.Statement.{statement}
 use Rattle.buffer_writer.proofs.inner.put_bit.Tie as tie
@@ -24,7 +29,11 @@ same-length : tie.Need-same-length
 same-length c = search needs
 
 returns : tie.Need-returns
-returns c = rw (c .with-bit .ensures) refl
+returns c =
+    let a = c .before .before .before .args in
+    let there : a .place / 8 < length (a .buf .now) = omega (arith, c .before .before .before .pre) in
+    ap (set (a .buf .now) (length (a .buf .now) - 1 - a .place / 8))
+    (c .with-bit .ensures ∙ ap (λ (b : ℕ). withBit b (a .place % 8) (a .bit)) (sym (tail-byte-there (a .buf .now) (a .place / 8) there)))
 
 pub put-bit-spec : {M : Type 1} → statement M
 put-bit-spec =

@@ -3,7 +3,7 @@
 use mathlib.Core.Path.{refl, sym, _∙_}
 use native.Mathlib.Omega.{arith}
 use Prim.Native.Nat.{_-_, _≤_}
-use Rattle.range_decoder.specs.Decoder.{Below}
+use Rattle.range_decoder.specs.Private.{Below}
 use Rattle.range_decoder.proofs.Answers.{Found, part-below, step-beyond, step-on}
 use Rattle.range_decoder.proofs.Renormal.{range-limits}
 use borrow.Author.Needs.{needs}

@@ -5,8 +5,8 @@ use mathlib.Core.Path.{ap}
 use native.Mathlib.Omega.{arith}
 use borrow.Author.Needs.{needs}
 use lib.ListN.{length}
-use Rattle.common.proofs.Cumulatives.{row-filled}
-use Rattle.range_decoder.proofs.Searches.{Candidate, part-within, first-candidate, candidate-within, next-there, next-candidate, candidate-owns}
+use Rattle.common.proofs.Cumulatives.{row-filled, part-within}
+use Rattle.range_decoder.proofs.Searches.{Candidate, first-candidate, candidate-within, next-there, next-candidate, candidate-owns}
 use Rattle.range_decoder.proofs.row.search.Statement.{statement}
 use Rattle.range_decoder.proofs.row.search.Tie as tie
 
@@ -26,7 +26,7 @@ mul-width : tie.Need-mul-width Inv-loop μ-loop
 mul-width c =
     let a = c .before .before .before .args in
     let p = c .before .before .before .pre in
-    omega (arith, p .0, ap (λ (n : ℕ). a .unit * n) (c .wide .ensures), part-within (a .row .now) (p .2) (a .unit) (a .low) 0 (row-filled (a .row .now) (p .2)))
+    omega (arith, p .0, ap (λ (n : ℕ). a .unit * n) (c .wide .ensures), part-within (a .row .now) (p .2) (a .unit) 0 (row-filled (a .row .now) (p .2)))
 
 loop-holds : tie.Need-loop-holds Inv-loop μ-loop
 loop-holds c =
@@ -71,7 +71,7 @@ mul-width-2 : tie.Need-mul-width-2 Inv-loop μ-loop
 mul-width-2 c =
     let a = c .before .before .before .before .before .before .before .args in
     let p = c .before .before .before .before .before .before .before .pre in
-    omega (arith, p .0, ap (λ (n : ℕ). a .unit * n) (c .wide2 .ensures), part-within (a .row .now) (p .2) (a .unit) (a .low) (c .before .before .before .loop .symbol + 1) (next-in (c .before .before)))
+    omega (arith, p .0, ap (λ (n : ℕ). a .unit * n) (c .wide2 .ensures), part-within (a .row .now) (p .2) (a .unit) (c .before .before .before .loop .symbol + 1) (next-in (c .before .before)))
 
 loop-less : tie.Need-loop-less Inv-loop μ-loop
 loop-less c = omega (arith, next-in (c .before .before))

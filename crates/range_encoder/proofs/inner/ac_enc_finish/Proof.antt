@@ -2,8 +2,8 @@
 -- cache, so the bytes held and the top bits of the last follow. Assumes nothing.
 use native.Mathlib.Omega.{arith}
 use lib.ListN.{length}
-use Rattle.range_encoder.specs.Finish.{endingOf}
-use Rattle.range_encoder.proofs.Sends.{chosen-bits, push-ready, last-ready, finish-behind}
+use Rattle.range_encoder.specs.Private.{endingOf}
+use Rattle.range_encoder.proofs.Sends.{push-ready, last-ready, finish-behind}
 use borrow.Author.Needs.{needs}
 use Rattle.range_encoder.proofs.inner.ac_enc_finish.Statement.{statement}
 use Rattle.range_encoder.proofs.inner.ac_enc_finish.Tie as tie
@@ -12,10 +12,7 @@ ending-requires : tie.Need-ending-requires
 ending-requires c κs = search needs
 
 ended-requires : tie.Need-ended-requires
-ended-requires c κs =
-    let s = c .before .before .before in
-    let e = c .before .ending in
-    chosen-bits (s .args .reading) (s .args .st) (endingOf (e .result)) (e .ensures) (s .pre .0)
+ended-requires c κs = search needs
 
 push-requires : tie.Need-push-requires
 push-requires c κs =

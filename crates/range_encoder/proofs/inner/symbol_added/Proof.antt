@@ -1,27 +1,23 @@
 -- `inner::symbol_added` meets its contract: what lies below a symbol, and its own part, are at most the range. Assumes nothing.
-use Prim.Native.Nat.{ℕ, _+_, _≤_}
 use mathlib.Core.Path.{refl}
 use native.Mathlib.Omega.{arith}
-use native.Mathlib.Nat.{mul-le-mul-left}
+use Rattle.common.proofs.Cumulatives.{share-within}
 use Rattle.range_decoder.specs.Decoder.{unitOf}
 use borrow.Author.Needs.{needs}
 use Rattle.range_encoder.proofs.inner.symbol_added.Statement.{statement}
 use Rattle.range_encoder.proofs.inner.symbol_added.Tie as tie
 
-some-most : (cum freq : ℕ) → cum + freq ≤ 1024 → (cum ≤ 1024) × (freq ≤ 1024)
-some-most cum freq most = (omega arith, omega arith)
-
 mul-low : tie.Need-mul-low
-mul-low c = omega (arith, c .before .pre .0 .range-fits, mul-le-mul-left (unitOf (c .before .args .st .range)) (some-most (c .before .args .cumulative) (c .before .args .frequency) (c .before .pre .1) .0))
+mul-low c = omega (arith, c .before .pre .0 .range-fits, share-within (unitOf (c .before .args .st .range)) (c .before .args .cumulative) (c .before .args .frequency) (c .before .pre .1))
 
 add-low : tie.Need-add-low
-add-low c = omega (arith, c .before .before .pre .0 .low-fits, c .before .before .pre .0 .range-fits, mul-le-mul-left (unitOf (c .before .before .args .st .range)) (some-most (c .before .before .args .cumulative) (c .before .before .args .frequency) (c .before .before .pre .1) .0))
+add-low c = omega (arith, c .before .before .pre .0 .low-fits, c .before .before .pre .0 .range-fits, share-within (unitOf (c .before .before .args .st .range)) (c .before .before .args .cumulative) (c .before .before .args .frequency) (c .before .before .pre .1))
 
 carry-of-requires : tie.Need-carry-of-requires
 carry-of-requires c κs = search needs
 
 mul-t8 : tie.Need-mul-t8
-mul-t8 c = omega (arith, c .before .before .before .pre .0 .range-fits, mul-le-mul-left (unitOf (c .before .before .before .args .st .range)) (some-most (c .before .before .before .args .cumulative) (c .before .before .before .args .frequency) (c .before .before .before .pre .1) .1))
+mul-t8 c = omega (arith, c .before .before .before .pre .0 .range-fits, share-within (unitOf (c .before .before .before .args .st .range)) (c .before .before .before .args .cumulative) (c .before .before .before .args .frequency) (c .before .before .before .pre .1))
 
 returns : tie.Need-returns
 returns c = rw (c .carry-of .ensures) refl

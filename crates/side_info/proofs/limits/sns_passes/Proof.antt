@@ -43,21 +43,21 @@ idx-most-requires c κs = omega (arith, c .before .before .before .before .befor
 both-requires-6 : tie.Need-both-requires-6
 both-requires-6 c κs = search needs
 
-most-if-requires : tie.Need-most-if-requires
-most-if-requires c κs = search needs
+if-there-requires : tie.Need-if-there-requires
+if-there-requires c κs = search needs
 
 both-requires-7 : tie.Need-both-requires-7
 both-requires-7 c κs = search needs
 
-most-if-requires-2 : tie.Need-most-if-requires-2
-most-if-requires-2 c κs = search needs
+if-there-requires-2 : tie.Need-if-there-requires-2
+if-there-requires-2 c κs = search needs
 
 both-requires-8 : tie.Need-both-requires-8
 both-requires-8 c κs = search needs
 
 returns-3 : tie.Need-returns-3
 returns-3 c =
-    rw (c .both8 .ensures, c .before .before .most-if2 .ensures, c .before .before .before .both7 .ensures, c .before .before .before .before .before .most-if .ensures, c .before .before .before .before .before .before .both6 .ensures, c .before .before .before .before .before .before .before .before .idx-most .ensures, c .before .before .before .before .before .before .before .before .before .both5 .ensures, c .before .before .before .before .before .before .before .before .before .before .before .both4 .ensures, c .before .before .before .before .before .before .before .before .before .before .before .before .before .gain-most .ensures, c .before .before .before .before .before .before .before .before .before .before .before .before .before .before .both3 .ensures, c .before .before .before .before .before .before .before .before .before .before .before .before .before .before .before .before .both2 .ensures, c .before .before .before .before .before .before .before .before .before .before .before .before .before .before .before .before .before .before .both .ensures)
+    rw (c .both8 .ensures, c .before .before .if-there2 .ensures, c .before .before .before .both7 .ensures, c .before .before .before .before .before .if-there .ensures, c .before .before .before .before .before .before .both6 .ensures, c .before .before .before .before .before .before .before .before .idx-most .ensures, c .before .before .before .before .before .before .before .before .before .both5 .ensures, c .before .before .before .before .before .before .before .before .before .before .before .both4 .ensures, c .before .before .before .before .before .before .before .before .before .before .before .before .before .gain-most .ensures, c .before .before .before .before .before .before .before .before .before .before .before .before .before .before .both3 .ensures, c .before .before .before .before .before .before .before .before .before .before .before .before .before .before .before .before .both2 .ensures, c .before .before .before .before .before .before .before .before .before .before .before .before .before .before .before .before .before .before .both .ensures)
     refl
 
 pub sns-passes-spec : {M : Type 1} → statement M
@@ -76,8 +76,8 @@ sns-passes-spec =
     both-requires-5
     idx-most-requires
     both-requires-6
-    most-if-requires
+    if-there-requires
     both-requires-7
-    most-if-requires-2
+    if-there-requires-2
     both-requires-8
     returns-3)

@@ -7,7 +7,7 @@ use borrow.Author.Tests.{eq-eqb, ne-eqb}
 use Rattle.side_info.specs.Record.{shapeOf}
 use lib.Dec.{eqb}
 use Rattle.side_info.proofs.Joints.{sns-limits}
-use Rattle.side_info.proofs.Lengths.{most-if}
+use Rattle.side_info.proofs.Lengths.{if-there}
 use Rattle.side_info.proofs.Within.{gain-limit, idx-limit}
 use borrow.Author.Needs.{needs}
 use Rattle.side_info.proofs.writer.joint_of.Statement.{statement}
@@ -19,7 +19,7 @@ limits c =
     let s = c .args .s in
     let l = sns-limits s (c .pre) in
     let zero = eqb (shapeOf s) 0 in
-    (omega (arith, l .gains, gain-limit (shapeOf s)), omega (arith, l .indexA, idx-limit (shapeOf s)), omega (arith, l .signB, most-if zero 1), omega (arith, l .indexB, most-if zero 5))
+    (omega (arith, l .gains, gain-limit (shapeOf s)), omega (arith, l .indexA, idx-limit (shapeOf s)), omega (arith, l .signB, if-there zero 1), omega (arith, l .indexB, if-there zero 5))
 
 mul-result : tie.Need-mul-result
 mul-result c = search needs

@@ -3,7 +3,7 @@
 use Prim.Native.Nat.{_*_}
 use mathlib.Core.Path.{sym, ap, _∙_}
 use lib.ListN.{length}
-use Rattle.side_info.specs.Writer.{roomOf}
+use Rattle.side_info.specs.Private.{roomOf}
 use Rattle.side_info.proofs.Answers.{fields-refused, fields-put}
 use Rattle.side_info.proofs.Layouts.{room-fits}
 use borrow.Author.Needs.{needs}
@@ -24,23 +24,23 @@ enum-known-found-2 c = search needs
 
 put-fields-requires : tie.Need-put-fields-requires
 put-fields-requires c κs =
-    let a = c .before .before .before .before .before .before .before .before .before .before .before .args in
-    let p = c .before .before .before .before .before .before .before .before .before .before .before .pre in
-    (p .0, room-fits (8 * length (a .buf .now)) (a .at .tail) (a .fields .widths) (p .1) (sym (c .before .before .before .before .before .before .room-for .ensures) ∙ ap roomOf (c .before .before .before .before .found2 .given .1)), p .2, p .3)
+    let a = c .before .before .before .before .before .before .args in
+    let p = c .before .before .before .before .before .before .pre in
+    (p .0, room-fits (8 * length (a .buf .now)) (a .at .tail) (a .fields) (p .1) (sym (c .before .before .before .before .room-for .ensures) ∙ ap roomOf (c .before .before .found2 .given .1)), p .2)
 
 returns : tie.Need-returns
 returns c =
-    let a = c .before .before .before .before .before .before .before .before .args in
-    fields-refused (a .fields .values) (a .fields .widths) (a .buf .now) (a .at) (sym (c .before .before .before .room-for .ensures) ∙ ap roomOf (c .before .found .given .1))
+    let a = c .before .before .before .before .before .args in
+    fields-refused (a .fields) (a .buf .now) (a .at) (sym (c .before .before .before .room-for .ensures) ∙ ap roomOf (c .before .found .given .1))
 
 same-length : tie.Need-same-length
 same-length c = search needs
 
 returns-2 : tie.Need-returns-2
 returns-2 c =
-    let a = c .before .before .before .before .before .before .before .before .before .before .before .before .before .before .args in
+    let a = c .before .before .before .before .before .before .before .before .before .args in
     rw (c .before .before .put-fields .ensures)
-    (fields-put (a .fields .values) (a .fields .widths) (a .buf .now) (a .at) (sym (c .before .before .before .before .before .before .before .before .before .room-for .ensures) ∙ ap roomOf (c .before .before .before .before .before .before .before .found2 .given .1)))
+    (fields-put (a .fields) (a .buf .now) (a .at) (sym (c .before .before .before .before .before .before .before .room-for .ensures) ∙ ap roomOf (c .before .before .before .before .before .found2 .given .1)))
 
 pub write-fields-spec : {M : Type 1} → statement M
 write-fields-spec =

@@ -1,20 +1,19 @@
 -- `estimate::coded_pairs` meets its contract: of the first `pairs` pairs the last that is not all zero is the last of all.
 -- Assumes nothing.
 use Prim.Native.Nat.{_+_, _*_, _/_, _≤_}
-use mathlib.Core.Path.{_≡_, refl, ap, _∙_}
+use mathlib.Core.Path.{_≡_, refl, _∙_}
 use native.Mathlib.Omega.{arith}
 use lib.ListN.{length}
 use Rattle.common.proofs.Bools.{refuted, confirmed}
 use Rattle.contexts.specs.Contexts.{magnitudes}
 use Rattle.contexts.proofs.Magnitudes.{magnitudes-length}
-use Rattle.spectral_quantization.specs.Estimate.{lastPair}
-use Rattle.spectral_quantization.proofs.LastPairs.{pair-found, pair-passed, pair-first}
+use Rattle.spectral_quantization.proofs.LastPairs.{codedOf, pair-found, pair-passed, pair-first}
 use Rattle.spectral_quantization.proofs.estimate.coded_pairs.Statement.{statement}
 use Rattle.spectral_quantization.proofs.estimate.coded_pairs.Tie as tie
 
 abbrev Inv-loop : tie.InvT-loop
 Inv-loop lines pairs₀ pairs =
-    (1 ≤ pairs) × (2 * pairs ≤ length lines) × (lastPair (magnitudes lines) pairs ≡ lastPair (magnitudes lines) (length (magnitudes lines) / 2))
+    (1 ≤ pairs) × (2 * pairs ≤ length lines) × (codedOf (magnitudes lines) pairs ≡ codedOf (magnitudes lines) (length (magnitudes lines) / 2))
 
 abbrev μ-loop : tie.MeasureT-loop
 μ-loop lines pairs₀ pairs = pairs
@@ -32,7 +31,7 @@ returns : tie.Need-returns Inv-loop μ-loop
 returns c =
     let at = c .before .before .before in
     let xs = magnitudes (at .before .args .lines .now) in (
-      pair-found xs (at .loop .pairs) (at .loop .inv .0) (refuted (c .before .pair-is-zero .ensures) (c .if1 .taken)) ∙ ap (λ n. n + 1) (at .loop .inv .2),
+      pair-found xs (at .loop .pairs) (at .loop .inv .0) (refuted (c .before .pair-is-zero .ensures) (c .if1 .taken)) ∙ at .loop .inv .2,
       at .loop .inv .1,
     )
 

@@ -6,25 +6,28 @@ use mathlib.Core.Bool.{true}
 use native.Mathlib.Omega.{arith}
 use denote.Ref.{now}
 use lib.ListN.{length}
-use Rattle.common.specs.Configuration.{configurationPasses, ne, frameLength}
+use Rattle.common.specs.Configuration.{configurationPasses, ne, lengthPasses, frameLines, frameLinesOf}
 use Rattle.common.specs.Reply.{accepted}
 use Rattle.common.specs.Tables.{Tables, tablesPass}
 use Rattle.common.proofs.Bools.{refuted, confirmed}
-use Rattle.common.proofs.Configurations.{ne-range, length-limits}
+use Rattle.common.proofs.Configurations.{fs-limit, ne-range, length-limits, frame-known}
 use Rattle.common.proofs.Sets.{lookup-passed, bits-passed}
 use Rattle.contexts.specs.Contexts.{magnitudes}
 use Rattle.contexts.proofs.Lookups.{rate-most}
 use Rattle.spectral_quantization.specs.declared.estimate.Frame.{Frame}
 use Rattle.spectral_quantization.specs.Estimate.{consumption}
-use Rattle.spectral_quantization.proofs.Refusals.{estimate-outside, estimate-target, estimate-length, estimate-tables, estimate-count, estimate-on}
+use Rattle.spectral_quantization.proofs.Refusals.{estimate-target, estimate-frame, estimate-tables, estimate-count, estimate-on}
 use borrow.Author.Needs.{needs}
 use Rattle.spectral_quantization.proofs.estimate.compute_bit_consumption.Statement.{statement}
 use Rattle.spectral_quantization.proofs.estimate.compute_bit_consumption.Tie as tie
 
+abbrev start : tie.After-frame-lines → tie.Start
+start c = c .before .before .before .before .before .before .before
+
 -- the set that was lent
-set-at : (c : tie.Start) → Tables
-set-at c =
-    let a = c .args in
+set-at : (s : tie.Start) → Tables
+set-at s =
+    let a = s .args in
     record {
       lookup = now (a .lookup);
       frequencies = now (a .frequencies);
@@ -33,110 +36,115 @@ set-at c =
       coefficients = now (a .coefficients);
     }
 
--- what each check that did not refuse says
-passed : (c : tie.Else1) → configurationPasses (c .before .before .before .before .before .before .before .args .configuration) ≡ true
-passed c = confirmed (c .before .passes .ensures) (c .if1 .left)
+-- behind 1 and 2: the frame's lines are known, and what passed
+known : (c : tie.After-ne) → frameLines (start (c .before .before) .args .configuration) (start (c .before .before) .args .bytes) ≡ accepted (c .ne .given .0 .0)
+known c = sym (c .before .before .frame-lines .ensures) ∙ ap frameLinesOf (c .ne .given .1)
 
-right : (c : tie.Else3) → frameLength (c .before .before .before .before .before .before .before .before .before .before .args .bytes) ≡ true
-right c = confirmed (c .before .frame-length .ensures) (c .if3 .left)
+passed : (c : tie.After-ne) → (configurationPasses (start (c .before .before) .args .configuration) ≡ true) × (lengthPasses (start (c .before .before) .args .bytes) ≡ true) × (c .ne .given .0 .0 ≡ ne (start (c .before .before) .args .configuration .duration) (start (c .before .before) .args .configuration .«fs_ind»))
+passed c =
+    let a = start (c .before .before) .args in
+    frame-known (a .configuration) (a .bytes) (known c)
 
-held : (c : tie.Else4) → tablesPass (set-at (c .before .before .before .before .before .before .before .before .before .before .before .before)) ≡ true
+-- behind 3
+held : (c : tie.Else2) → tablesPass (set-at (start (c .before .before .before .before .before))) ≡ true
 unfolding set-at
-held c = confirmed (c .before .tables-pass .ensures) (c .if4 .left)
-
--- the frame's numbers of lines and its rate flag are those of the configuration
-count-is : (c : tie.After-frame-of) → c .frame-of .result .ne ≡ ne (c .before .before .before .before .before .before .before .before .before .before .before .before .before .args .configuration .duration) (c .before .before .before .before .before .before .before .before .before .before .before .before .before .args .configuration .«fs_ind»)
-count-is c = ap (λ (f : Frame). f .ne) (c .frame-of .ensures)
-
-rate-is : (c : tie.After-frame-of) → c .frame-of .result .rate ≤ 512
-rate-is c =
-    let a = c .before .before .before .before .before .before .before .before .before .before .before .before .before .args in
-    rw (ap (λ (f : Frame). f .rate) (c .frame-of .ensures)) (rate-most (8 * a .bytes) (a .configuration .«fs_ind»))
-
-counted : (c : tie.Else5) → length (c .before .before .before .before .before .before .before .before .before .before .before .before .before .before .before .args .lines .now) ≡ ne (c .before .before .before .before .before .before .before .before .before .before .before .before .before .before .before .args .configuration .duration) (c .before .before .before .before .before .before .before .before .before .before .before .before .before .before .before .args .configuration .«fs_ind»)
-counted c = c .if5 .left ∙ count-is (c .before .before)
-
-passes-requires : tie.Need-passes-requires
-passes-requires c κs = search needs
+held c = confirmed (c .before .tables-pass .ensures) (c .if2 .left)
 
 returns : tie.Need-returns
 unfolding set-at
 returns c =
-    let s = c .before .before .before .before .before .before .before in
-    let a = s .args in
-    sym (estimate-outside (a .configuration) (a .bytes) (set-at s) (a .target) (a .lines .now) (refuted (c .before .passes .ensures) (c .if1 .taken)))
+    let s = c .before .before .before .before .before .before in
+    sym (estimate-target (s .args .configuration) (s .args .bytes) (set-at s) (s .args .target) (s .args .lines .now) (c .if1 .taken))
 
-returns-2 : tie.Need-returns-2
-unfolding set-at
-returns-2 c =
-    let s = c .before .before .before .before .before .before .before .before in
-    let a = s .args in
-    sym (estimate-target (a .configuration) (a .bytes) (set-at s) (a .target) (a .lines .now) (passed (c .before)) (c .if2 .taken))
+frame-lines-requires : tie.Need-frame-lines-requires
+frame-lines-requires c κs = search needs
 
-frame-length-requires : tie.Need-frame-length-requires
-frame-length-requires c κs = search needs
+enum-told : tie.Need-enum-told
+enum-told c = search needs
 
-returns-3 : tie.Need-returns-3
-unfolding set-at
-returns-3 c =
-    let s = c .before .before .before .before .before .before .before .before .before .before in
-    let a = s .args in
-    sym (estimate-length (a .configuration) (a .bytes) (set-at s) (a .target) (a .lines .now) (passed (c .before .before .before)) (c .before .before .if2 .left) (refuted (c .before .frame-length .ensures) (c .if3 .taken)))
+enum-known-length : tie.Need-enum-known-length
+enum-known-length c = search needs
+
+enum-known-ne : tie.Need-enum-known-ne
+enum-known-ne c = search needs
 
 tables-pass-requires : tie.Need-tables-pass-requires
 tables-pass-requires c κs = search needs
 
-returns-4 : tie.Need-returns-4
+returns-2 : tie.Need-returns-2
 unfolding set-at
-returns-4 c =
-    let s = c .before .before .before .before .before .before .before .before .before .before .before .before in
-    let a = s .args in
-    sym (estimate-tables (a .configuration) (a .bytes) (set-at s) (a .target) (a .lines .now) (passed (c .before .before .before .before .before)) (c .before .before .before .before .if2 .left) (right (c .before .before)) (refuted (c .before .tables-pass .ensures) (c .if4 .taken)))
+returns-2 c =
+    let n = c .before .before .before in
+    let f = n .before .before in
+    let s = start f in
+    sym (estimate-tables (s .args .configuration) (s .args .bytes) (set-at s) (s .args .target) (s .args .lines .now) (f .before .if1 .left) (n .ne .given .0 .0) (known n) (refuted (c .before .tables-pass .ensures) (c .if2 .taken)))
+
+returns-3 : tie.Need-returns-3
+unfolding set-at
+returns-3 c =
+    let n = c .before .before .before .before in
+    let f = n .before .before in
+    let s = start f in
+    sym (estimate-count (s .args .configuration) (s .args .bytes) (set-at s) (s .args .target) (s .args .lines .now) (f .before .if1 .left) (n .ne .given .0 .0) (known n) (held (c .before)) (c .if3 .taken))
 
 frame-of-requires : tie.Need-frame-of-requires
-frame-of-requires c κs = (passed (c .before .before .before .before .before), length-limits (c .before .before .before .before .before .before .before .before .before .before .before .before .args .bytes) (right (c .before .before)) .1)
-
-returns-5 : tie.Need-returns-5
-unfolding set-at
-returns-5 c =
-    let s = c .before .before .before .before .before .before .before .before .before .before .before .before .before .before .before in
-    let a = s .args in
-    sym (estimate-count (a .configuration) (a .bytes) (set-at s) (a .target) (a .lines .now) (passed (c .before .before .before .before .before .before .before .before)) (c .before .before .before .before .before .before .before .if2 .left) (right (c .before .before .before .before .before)) (held (c .before .before .before)) (λ e. c .if5 .taken (e ∙ sym (count-is (c .before .before)))))
+frame-of-requires c κs =
+    let n = c .before .before .before .before in
+    let a = start (n .before .before) .args in
+    (fs-limit (a .configuration) (passed n .0), length-limits (a .bytes) (passed n .1) .1)
 
 consumption-requires : tie.Need-consumption-requires
 unfolding set-at
 consumption-requires c κs =
-    let s = c .before .before .before .before .before .before .before .before .before .before .before .before .before .before .before in
-    let set = set-at s in
-    let h = held (c .before .before .before) in
-    let r = ne-range (s .args .configuration) (passed (c .before .before .before .before .before .before .before .before)) in (
-      record { passes = lookup-passed set h; size = bits-passed set h },
-      rate-is (c .before .before),
-      omega (arith, counted c, r .0),
-      omega (arith, counted c, r .1),
+    let n = c .before .before .before .before .before in
+    let s = start (n .before .before) in
+    let h = held (c .before .before) in
+    let r = ne-range (s .args .configuration) (passed n .0) in (
+      record { passes = lookup-passed (set-at s) h; size = bits-passed (set-at s) h },
+      rw (ap (λ (f : Frame). f .rate) (c .frame-of .ensures)) (rate-most (8 * s .args .bytes) (s .args .configuration .«fs_ind»)),
+      omega (arith, c .before .if3 .left, passed n .2, r .0),
+      omega (arith, c .before .if3 .left, passed n .2, r .1),
     )
+
+returns-4 : tie.Need-returns-4
+unfolding set-at
+returns-4 c =
+    let f = c .before .before in
+    let s = start f in
+    sym (estimate-frame (s .args .configuration) (s .args .bytes) (set-at s) (s .args .target) (s .args .lines .now) (f .before .if1 .left) (sym (f .frame-lines .ensures) ∙ ap frameLinesOf (c .enum-told .given .1)))
+
+returns-5 : tie.Need-returns-5
+unfolding set-at
+returns-5 c =
+    let f = c .before .before .before in
+    let s = start f in
+    sym (estimate-frame (s .args .configuration) (s .args .bytes) (set-at s) (s .args .target) (s .args .lines .now) (f .before .if1 .left) (sym (f .frame-lines .ensures) ∙ ap frameLinesOf (c .before .length .given .1)))
 
 returns-6 : tie.Need-returns-6
 unfolding set-at
 returns-6 c =
-    let s = c .before .before .before .before .before .before .before .before .before .before .before .before .before .before .before .before in
+    let e = c .before .before in
+    let n = e .before .before .before .before in
+    let f = n .before .before in
+    let s = start f in
     let a = s .args in
-    let e = c .before in
-    ap accepted (c .consumption .ensures ∙ ap (λ (f : Frame). consumption (now (a .lookup)) (now (a .bits)) f (magnitudes (a .lines .now))) (e .before .before .frame-of .ensures)) ∙
-    sym (estimate-on (a .configuration) (a .bytes) (set-at s) (a .target) (a .lines .now) (passed (e .before .before .before .before .before .before .before .before)) (e .before .before .before .before .before .before .before .if2 .left) (right (e .before .before .before .before .before)) (held (e .before .before .before)) (counted e))
+    ap accepted (c .consumption .ensures ∙ ap (λ (f : Frame). consumption (magnitudes (a .lines .now)) (now (a .lookup)) (now (a .bits)) (f .ne) (f .rate) (f .mode) (f .target)) (c .before .frame-of .ensures)) ∙
+    sym (estimate-on (a .configuration) (a .bytes) (set-at s) (a .target) (a .lines .now) (f .before .if1 .left) (n .ne .given .0 .0) (known n) (held (e .before)) (e .if3 .left))
 
 pub compute-bit-consumption-spec : {M : Type 1} → statement M
 compute-bit-consumption-spec =
     tie.close
     (tie.spec
-    passes-requires
     returns
-    returns-2
-    frame-length-requires
-    returns-3
+    frame-lines-requires
+    enum-told
+    enum-known-length
+    enum-known-ne
     tables-pass-requires
-    returns-4
+    returns-2
+    returns-3
     frame-of-requires
-    returns-5
     consumption-requires
+    returns-4
+    returns-5
     returns-6)

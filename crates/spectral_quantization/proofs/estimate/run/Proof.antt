@@ -5,14 +5,14 @@ use mathlib.Core.Path.{_≡_}
 use native.Mathlib.Omega.{arith}
 use lib.ListN.{length}
 use Rattle.contexts.specs.Contexts.{magnitudes}
-use Rattle.spectral_quantization.specs.Estimate.{behind, Bounded}
-use Rattle.spectral_quantization.proofs.Runs.{start-bounded, behind-none, behind-more}
+use Rattle.spectral_quantization.specs.Private.{runningAt, Bounded}
+use Rattle.spectral_quantization.proofs.Runs.{start-bounded, running-none, running-more}
 use Rattle.spectral_quantization.proofs.estimate.run.Statement.{statement}
 use Rattle.spectral_quantization.proofs.estimate.run.Tie as tie
 
 abbrev Inv-loop : tie.InvT-loop
 Inv-loop lookup bits frame lines pairs s₀ p₀ s p =
-    (p ≤ pairs) × (s ≡ behind lookup bits frame (magnitudes lines) p) × Bounded p s
+    (p ≤ pairs) × (s ≡ runningAt lookup bits frame (magnitudes lines) p) × Bounded p s
 
 abbrev μ-loop : tie.MeasureT-loop
 μ-loop lookup bits frame lines pairs s₀ p₀ s p = pairs - p
@@ -26,7 +26,7 @@ there c =
 loop-holds : tie.Need-loop-holds Inv-loop μ-loop
 loop-holds c =
     let a = c .before .before .args in
-    (omega arith, behind-none (a .lookup .now) (a .bits .now) (a .frame) (magnitudes (a .lines .now)), start-bounded)
+    (omega arith, running-none (a .lookup .now) (a .bits .now) (a .frame) (magnitudes (a .lines .now)), start-bounded)
 
 mul-magnitude-at : tie.Need-mul-magnitude-at Inv-loop μ-loop
 mul-magnitude-at c = record { fits = omega (arith, there c .1) }
@@ -59,7 +59,7 @@ loop-again c =
     let at = c .before .before .before .before in
     let a = at .before .before .before .args in (
       omega (arith, c .before .before .before .loop-test .taken),
-      rw (behind-more (a .lookup .now) (a .bits .now) (a .frame) (magnitudes (a .lines .now)) (at .loop .p), ← at .loop .inv .1, ← c .before .before .magnitude-at .ensures .0, ← c .before .magnitude-at2 .ensures .0) (c .on-pair .ensures .0),
+      rw (running-more (a .lookup .now) (a .bits .now) (a .frame) (magnitudes (a .lines .now)) (at .loop .p), ← at .loop .inv .1, ← c .before .before .magnitude-at .ensures .0, ← c .before .magnitude-at2 .ensures .0) (c .on-pair .ensures .0),
       c .on-pair .ensures .1,
     )
 

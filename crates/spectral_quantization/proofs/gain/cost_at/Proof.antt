@@ -6,13 +6,13 @@ use native.Mathlib.Omega.{arith}
 use lib.ListN.{length, getD, drop}
 use lib.Ieee.{nan, round, ofBits}
 use Rattle.spectral_quantization.specs.Single.{constant}
-use Rattle.spectral_quantization.specs.Gain.{costAt, withEnergy}
+use Rattle.spectral_quantization.specs.Private.{costOfAll, costWith}
 use Rattle.spectral_quantization.proofs.Energies.{walk-start, walk-turn, walk-end}
 use Rattle.spectral_quantization.proofs.gain.cost_at.Statement.{statement}
 use Rattle.spectral_quantization.proofs.gain.cost_at.Tie as tie
 
 abbrev Inv-loop : tie.InvT-loop
-Inv-loop energies level n left₀ cost₀ left cost = (left ≤ length energies) × (cost ≡ costAt level (drop left energies))
+Inv-loop energies level n left₀ cost₀ left cost = (left ≤ length energies) × (cost ≡ costOfAll level (drop left energies))
 
 abbrev μ-loop : tie.MeasureT-loop
 μ-loop energies level n left₀ cost₀ left cost = left
@@ -45,7 +45,7 @@ loop-again c =
     let a = at .before .before .args in (
       omega arith,
       c .with-energy .ensures
-          ∙ ap (withEnergy (a .level) (getD (a .energies .now) (at .loop .left - 1) nan)) (at .loop .inv .1)
+          ∙ ap (costWith (a .level) (getD (a .energies .now) (at .loop .left - 1) nan)) (at .loop .inv .1)
           ∙ walk-turn (a .level) (a .energies .now) (at .loop .left) (c .before .before .loop-test .taken) (at .loop .inv .0),
     )
 

@@ -4,7 +4,8 @@ use Prim.Native.Nat.{_≤_, _-_, _/_}
 use mathlib.Core.Path.{_≡_, refl}
 use native.Mathlib.Omega.{arith}
 use lib.ListN.{length}
-use Rattle.range_encoder.specs.Encoder.{Sound, shiftsOf}
+use Rattle.range_encoder.specs.Encoder.{shiftsOf}
+use Rattle.range_encoder.specs.Private.{Sound}
 use Rattle.range_encoder.proofs.Carry.{sound-start}
 use borrow.Author.Needs.{needs}
 use Rattle.vectors.proofs.encoder_cases.encode_all.Statement.{statement}
@@ -49,7 +50,7 @@ returns-2 : tie.Need-returns-2 Inv-loop μ-loop
 returns-2 c = search needs
 
 encode-one-requires : tie.Need-encode-one-requires Inv-loop μ-loop
-encode-one-requires c κs = search needs
+encode-one-requires c κs = (search needs, search needs, search needs, omega arith, omega arith)
 
 add-i : tie.Need-add-i Inv-loop μ-loop
 add-i c = search needs
@@ -58,7 +59,7 @@ loop-less : tie.Need-loop-less Inv-loop μ-loop
 loop-less c = search needs
 
 loop-again : tie.Need-loop-again Inv-loop μ-loop
-loop-again c = search needs
+loop-again c = (search needs, search needs, search needs, omega arith, search needs)
 
 same-length-3 : tie.Need-same-length-3 Inv-loop μ-loop
 same-length-3 c = search needs
