@@ -1,10 +1,10 @@
 // The six files of lc3-codec, unchanged, in the module tree that they expect; what is absent comes from shims/.
-// A `door` is a child module, so it may name what its file keeps private; later cases call through it.
+// A `door` is a child module, so it may name what its file keeps private; the cases call through it.
 #![allow(dead_code)]
 
 macro_rules! source {
     ($file:literal) => {
-        include!(concat!(env!("LC3_CODEC_SRC"), "/src/", $file));
+        include!(concat!(env!("ORACLE_SOURCE"), "/", $file));
     };
 }
 
@@ -19,28 +19,41 @@ pub mod heapless;
 #[path = "shims/itertools.rs"]
 mod itertools;
 #[path = "shims/num_traits.rs"]
-mod num_traits;
+pub mod num_traits;
 #[path = "shims/side_info.rs"]
 pub mod side_info;
 #[path = "shims/tables.rs"]
 pub mod tables;
+
+pub mod coder {
+    // The encoder's state, and the bytes that are out.
+    #[derive(Clone, Copy, Debug, PartialEq)]
+    pub struct State {
+        pub low: u32,
+        pub range: u32,
+        pub cache: i32,
+        pub carry: i32,
+        pub carry_count: i32,
+        pub bp: usize,
+    }
+}
 
 pub mod decoder {
     pub use super::side_info;
 
     pub mod buffer_reader {
         use crate::lc3::byteorder;
-        source!("decoder/buffer_reader.rs");
+        source!("src/decoder/buffer_reader.rs");
     }
 
     pub mod side_info_reader {
         use crate::lc3::num_traits;
-        source!("decoder/side_info_reader.rs");
+        source!("src/decoder/side_info_reader.rs");
     }
 
     pub mod arithmetic_codec {
         use crate::lc3::{heapless, num_traits};
-        source!("decoder/arithmetic_codec.rs");
+        source!("src/decoder/arithmetic_codec.rs");
 
         pub mod door {
             use super::*;
@@ -75,7 +88,7 @@ pub mod encoder {
 
     pub mod buffer_writer {
         use crate::lc3::num_traits;
-        source!("encoder/buffer_writer.rs");
+        source!("src/encoder/buffer_writer.rs");
 
         pub mod door {
             use super::*;
@@ -93,96 +106,28 @@ pub mod encoder {
 
     pub mod bitstream_encoding {
         use crate::lc3::{heapless, num_traits};
-        source!("encoder/bitstream_encoding.rs");
+        source!("src/encoder/bitstream_encoding.rs");
 
         pub mod door {
             use super::*;
+            include!("doors/bitstream_encoding.rs");
+        }
+    }
 
-            #[derive(Clone, Copy, Debug, PartialEq)]
-            pub struct State {
-                pub low: u32,
-                pub range: u32,
-                pub cache: i32,
-                pub carry: i32,
-                pub carry_count: i32,
-                pub bp: usize,
-            }
+    // The same file with the one mask that the standard has and the crate has not.
+    pub mod standard_encoding {
+        use crate::lc3::{heapless, num_traits};
+        source!("standard/bitstream_encoding.rs");
 
-            pub fn start() -> BitstreamEncoding {
-                let mut coder = BitstreamEncoding::default();
-                coder.ac_enc_init();
-                coder
-            }
-
-            pub fn coder(at: State) -> BitstreamEncoding {
-                let mut coder = BitstreamEncoding::default();
-                coder.st.low = at.low;
-                coder.st.range = at.range;
-                coder.st.cache = at.cache;
-                coder.st.carry = at.carry;
-                coder.st.carry_count = at.carry_count;
-                coder.writer.bp = at.bp;
-                coder
-            }
-
-            pub fn state(coder: &BitstreamEncoding) -> State {
-                let st = &coder.st;
-                State {
-                    low: st.low,
-                    range: st.range,
-                    cache: st.cache,
-                    carry: st.carry,
-                    carry_count: st.carry_count,
-                    bp: coder.writer.bp,
-                }
-            }
-
-            pub fn symbol(coder: &mut BitstreamEncoding, cumulative: i16, frequency: i16, bytes: &mut [u8]) {
-                coder.ac_encode(cumulative, frequency, bytes)
-            }
-
-            pub fn forecast(coder: &BitstreamEncoding) -> usize {
-                coder.nbits_side_forcast()
-            }
-
-            pub fn finish(coder: &mut BitstreamEncoding, bytes: &mut [u8]) {
-                coder.ac_enc_finish(bytes)
-            }
-
-            // What `encode` takes for the side information.
-            pub struct Side {
-                pub bandwidth: BandwidthDetectorResult,
-                pub sns: SnsResult,
-                pub tns: TnsResult,
-                pub post_filter: LongTermPostFilterResult,
-                pub spec: SpectralQuantizationResult,
-                pub noise_factor: usize,
-            }
-
-            // The part of `encode` that writes the side information, at any place; its `init` would clear the frame.
-            pub fn side(ne: usize, writer: BufferWriter, side: &Side, bytes: &mut [u8]) -> BufferWriter {
-                let Side { bandwidth, sns, tns, post_filter, spec, noise_factor } = side;
-                let mut coder = BitstreamEncoding { writer, ..BitstreamEncoding::new(ne) };
-                coder.bandwidth(bandwidth.bandwidth_ind, bandwidth.nbits_bandwidth, bytes);
-                coder.last_non_zero_tuple(spec.lastnz_trunc, bytes);
-                coder.lsb_mode_bit(spec.lsb_mode, bytes);
-                coder.global_gain(spec.gg_ind as usize, bytes);
-                coder.tns_activation_flag(tns.num_tns_filters, &tns.rc_order, bytes);
-                coder.pitch_present_flag(post_filter.pitch_present, bytes);
-                coder.encode_scf_vq_1st_stage(sns.ind_lf, sns.ind_hf, bytes);
-                coder.encode_scf_vq_2nd_stage(sns.shape_j, sns.gind, sns.ls_inda, sns.index_joint_j, bytes);
-                if post_filter.pitch_present {
-                    coder.ltpf_data(post_filter.ltpf_active, post_filter.pitch_index, bytes);
-                }
-                coder.noise_factor(*noise_factor, bytes);
-                coder.writer
-            }
+        pub mod door {
+            use super::*;
+            include!("doors/bitstream_encoding.rs");
         }
     }
 
     pub mod spectral_quantization {
         use crate::lc3::{itertools, num_traits};
-        source!("encoder/spectral_quantization.rs");
+        source!("src/encoder/spectral_quantization.rs");
 
         pub mod door {
             use super::*;

@@ -33,12 +33,19 @@ struct Module {
     sample: fn(&mut Records),
 }
 
-const MODULES: [Module; 6] = [
+// A program of one module alone is built sooner: `only` is its name, and else "all".
+const MODULES: &[Module] = &[
+    #[cfg(any(only = "all", only = "buffer_reader"))]
     Module { name: "buffer_reader", run: buffer_reader::run, sample: buffer_reader::sample },
+    #[cfg(any(only = "all", only = "buffer_writer"))]
     Module { name: "buffer_writer", run: buffer_writer::run, sample: buffer_writer::sample },
+    #[cfg(any(only = "all", only = "side_info"))]
     Module { name: "side_info", run: side_info::run, sample: side_info::sample },
+    #[cfg(any(only = "all", only = "range_decoder"))]
     Module { name: "range_decoder", run: range_decoder::run, sample: range_decoder::sample },
+    #[cfg(any(only = "all", only = "range_encoder"))]
     Module { name: "range_encoder", run: range_encoder::run, sample: range_encoder::sample },
+    #[cfg(any(only = "all", only = "spectral_quantization"))]
     Module { name: "spectral_quantization", run: spectral_quantization::run, sample: spectral_quantization::sample },
 ];
 
@@ -47,7 +54,7 @@ fn main() {
     let words: Vec<String> = std::env::args().skip(1).collect();
     let (name, rest) = words.split_first().unwrap_or_else(|| usage());
     let mut out = Records::to_stdout();
-    if name == "recording" && !rest.is_empty() {
+    if cfg!(only = "all") && name == "recording" && !rest.is_empty() {
         let frames = recording::run(&mut out, rest);
         return out.finish(&format!("recording, {} frames of {} files", frames, rest.len()));
     }

@@ -1,13 +1,13 @@
-// Records of cases and answers, the generator that makes the cases, and the guard that makes a panic an answer.
+// Records of cases and answers, the generator that makes the cases, and the rule that every panic is held to.
 
+use std::cell::Cell;
 use std::collections::btree_map::{BTreeMap, Entry};
 use std::io::{BufWriter, Stdout, Write};
 use std::panic::{catch_unwind, set_hook, take_hook, AssertUnwindSafe};
 use std::sync::atomic::{AtomicBool, Ordering};
 
-// First byte of an answer.
+// First byte of an answer that is no refusal.
 pub const ACCEPTED: u8 = 0;
-pub const PANICKED: u8 = 255;
 
 // The answer of a refusal: its number and its values.
 pub fn refused(number: u8, values: &[usize]) -> Vec<u8> {
@@ -75,11 +75,12 @@ impl<K: Ord, C> OneOfEach<K, C> {
 pub struct Records {
     out: BufWriter<Stdout>,
     counts: BTreeMap<u8, usize>,
+    panics: usize,
 }
 
 impl Records {
     pub fn to_stdout() -> Self {
-        Records { out: BufWriter::with_capacity(1 << 16, std::io::stdout()), counts: BTreeMap::new() }
+        Records { out: BufWriter::with_capacity(1 << 16, std::io::stdout()), counts: BTreeMap::new(), panics: 0 }
     }
 
     pub fn put(&mut self, kind: u8, case: &[u8], answer: &[u8]) {
@@ -89,30 +90,68 @@ impl Records {
         head.extend((case.len() as u16).to_be_bytes());
         head.extend((answer.len() as u16).to_be_bytes());
         for part in [&head[..], case, answer] {
-            self.out.write_all(part).unwrap_or_else(|e| stop(e));
+            self.out.write_all(part).unwrap_or_else(|e| stop(&format!("cannot write: {}", e)));
         }
+    }
+
+    // A case with what the Rust says of it. `panics` is the rule: the refusal that document 01 gives where the Rust has
+    // none and panics. That refusal is then the answer. A panic elsewhere, or none there, ends the run.
+    pub fn put_said(&mut self, kind: u8, case: &[u8], panics: Option<Vec<u8>>, said: impl FnOnce() -> Vec<u8>) {
+        let said = caught(said);
+        let answer = match (FAULT.with(Cell::take), said, panics) {
+            (Some(what), ..) => wrong(kind, case, what),
+            (None, Some(answer), None) => answer,
+            (None, None, Some(refusal)) => {
+                self.panics += 1;
+                refusal
+            }
+            (None, None, None) => wrong(kind, case, "the Rust panics, and no rule says that it does"),
+            (None, Some(_), Some(_)) => wrong(kind, case, "the Rust returns where the rule says that it panics"),
+        };
+        self.put(kind, case, &answer);
     }
 
     // Says on standard error how many records were written, by answer.
     pub fn finish(mut self, what: &str) {
-        self.out.flush().unwrap_or_else(|e| stop(e));
+        self.out.flush().unwrap_or_else(|e| stop(&format!("cannot write: {}", e)));
         let all: usize = self.counts.values().sum();
-        let parts: Vec<String> = self
+        let mut parts: Vec<String> = self
             .counts
             .iter()
             .map(|(first, n)| match *first {
                 ACCEPTED => format!("{} accepted", n),
-                PANICKED => format!("{} where the Rust panics", n),
                 number => format!("{} refused {}", n, number),
             })
             .collect();
+        parts.push(format!("{} where the Rust panics", self.panics));
         eprintln!("oracle {}: {} cases: {}", what, all, parts.join(", "));
     }
 }
 
-fn stop(e: std::io::Error) -> ! {
-    eprintln!("oracle: cannot write: {}", e);
+pub fn stop(why: &str) -> ! {
+    eprintln!("oracle: FAILED: {}", why);
     std::process::exit(1)
+}
+
+fn wrong(kind: u8, case: &[u8], what: &str) -> ! {
+    let hex: String = case.iter().map(|byte| format!("{:02x}", byte)).collect();
+    stop(&format!("{}: kind {} case {}", what, kind, hex))
+}
+
+thread_local! {
+    static FAULT: Cell<Option<&'static str>> = const { Cell::new(None) };
+}
+
+// Something beside the answer that has to be so. Where it is not, the run ends with the case that is under way.
+pub fn hold(is_so: bool, fault: &'static str) {
+    if !is_so {
+        FAULT.with(|held| held.set(Some(fault)));
+    }
+}
+
+// The first that is found, of so many tries that only a Rust that is not the one expected uses them up.
+pub fn search<T>(what: &str, mut find: impl FnMut() -> Option<T>) -> T {
+    (0..100_000).find_map(|_| find()).unwrap_or_else(|| stop(&format!("nothing was found: {}", what)))
 }
 
 static CAUGHT: AtomicBool = AtomicBool::new(false);
@@ -127,8 +166,13 @@ pub fn quiet_panics() {
     }));
 }
 
+// What the Rust returns where it has no panic; `case` says which call it is.
+pub fn returned<R>(call: impl FnOnce() -> R, case: impl FnOnce() -> String) -> R {
+    caught(call).unwrap_or_else(|| stop(&format!("the Rust panics, and no rule says that it does: {}", case())))
+}
+
 // What the Rust returns, or None where it panics.
-pub fn caught<R>(call: impl FnOnce() -> R) -> Option<R> {
+fn caught<R>(call: impl FnOnce() -> R) -> Option<R> {
     CAUGHT.store(true, Ordering::Relaxed);
     let result = catch_unwind(AssertUnwindSafe(call));
     CAUGHT.store(false, Ordering::Relaxed);

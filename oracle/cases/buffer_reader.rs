@@ -1,12 +1,25 @@
 // Cases of the buffer reader: each operation at every bit index, around every limit, and at random.
-// The limits below only aim the cases; every answer is the Rust's.
+// The limits below only aim the cases; every answer is the Rust's, but where it panics.
 
 use crate::lc3::decoder::buffer_reader::{BufferReader, BufferReaderError};
-use crate::records::{caught, refused, OneOfEach, Records, Rng, ACCEPTED, PANICKED};
+use crate::records::{hold, refused, OneOfEach, Records, Rng, ACCEPTED};
 
 const WIDTHS: [usize; 11] = [1, 2, 3, 4, 5, 6, 7, 8, 9, 24, 25];
 // the largest cursor that is compared
 const FAR: usize = 65_535;
+
+// The Rust's reader at a head in bytes and a tail in bits; at both ends it is a new one.
+pub fn reader_at((head, tail): (usize, usize)) -> BufferReader {
+    match (head, tail) {
+        (0, 0) => BufferReader::new(),
+        _ => BufferReader::new_at(head, tail),
+    }
+}
+
+// Where the Rust's reader stands.
+pub fn cursors(reader: &BufferReader) -> (usize, usize) {
+    (reader.get_head_byte_cursor(), reader.get_tail_bit_cursor())
+}
 
 #[derive(Clone, Copy)]
 enum Op {
@@ -46,27 +59,33 @@ impl Case {
             case.extend((number as u64).to_be_bytes());
         }
         case.extend(&self.buf);
-        out.put(kind, &case, &self.answer());
+        out.put_said(kind, &case, self.panics(), || self.answer());
+    }
+
+    // The Rust's own test lets one bit through whose byte is not in the buffer; document 01 refuses it.
+    fn panics(&self) -> Option<Vec<u8>> {
+        let (len, byte) = (self.buf.len(), self.tail / 8);
+        let is_bit = matches!(self.op, Op::Bit);
+        (is_bit && self.head + byte <= len + 2 && byte >= len).then(|| refused(9, &[1, self.tail % 8]))
     }
 
     fn answer(&self) -> Vec<u8> {
         let buf = &self.buf[..];
-        let mut reader = BufferReader::new_at(self.head, self.tail);
-        let value = match caught(|| match self.op {
+        let mut reader = reader_at((self.head, self.tail));
+        let value = match self.op {
             Op::Byte => reader.read_head_byte(buf).map(|v| v as u32),
             Op::Three => reader.read_head_u24(buf),
             Op::Bits(n) => reader.read_tail_usize(buf, n).map(|v| v as u32),
             Op::Bit => reader.read_tail_bool(buf).map(|v| v as u32),
-        }) {
-            None => return vec![PANICKED],
-            Some(value) => value,
         };
+        let (head, tail) = cursors(&reader);
+        hold(value.is_ok() || (head, tail) == (self.head, self.tail), "a refused read moves a cursor");
         match value {
             Ok(v) => {
                 let mut answer = vec![ACCEPTED];
                 answer.extend(v.to_be_bytes());
-                answer.extend((reader.get_head_byte_cursor() as u64).to_be_bytes());
-                answer.extend((reader.get_tail_bit_cursor() as u64).to_be_bytes());
+                answer.extend((head as u64).to_be_bytes());
+                answer.extend((tail as u64).to_be_bytes());
                 answer
             }
             Err(BufferReaderError::ReadByteOutOfBounds(h)) => refused(10, &[h]),
@@ -90,7 +109,7 @@ impl Case {
 }
 
 // The bytes that a field of n bits at bit index b takes.
-fn bytes_of(n: usize, b: usize) -> usize {
+pub fn bytes_of(n: usize, b: usize) -> usize {
     n / 8 + if n > 8 - b && n < 8 { 2 } else { 1 }
 }
 
@@ -202,10 +221,12 @@ pub fn run(out: &mut Records, seed: u64, count: usize) {
     }
 }
 
-// One case of each class that the short lengths have, then some at the limits of longer frames and at the far cursors.
+// A new reader in every call; one case of each class that the short lengths have; some at the limits of longer frames and
+// at the far cursors.
 pub fn sample(out: &mut Records) {
     let rng = &mut Rng::new(0);
     let pick = &mut Rng::new(1);
+    all_ops().into_iter().for_each(|op| Case::new(rng, op, 9, (0, 0)).put(out));
     let mut classes = OneOfEach::new();
     exhaustive(rng, |case| classes.take(pick, case.class(), case));
     classes.cases().for_each(|case| case.put(out));

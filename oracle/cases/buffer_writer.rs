@@ -1,15 +1,19 @@
 // Cases of the buffer writer: each operation at every place of short buffers, around every limit, and at random.
-// The limits below only aim the cases; every answer is the Rust's.
+// The limits below only aim the cases; every answer is the Rust's, but where it panics.
 
 use crate::lc3::encoder::buffer_writer::{door, BufferWriter};
-use crate::records::{caught, OneOfEach, Records, Rng, ACCEPTED, PANICKED};
+use crate::records::{refused, OneOfEach, Records, Rng, ACCEPTED};
 
 const WIDTHS: [usize; 11] = [1, 2, 3, 4, 5, 6, 7, 8, 9, 24, 25];
 // the largest cursor that is compared
 const FAR: usize = 65_535;
 
-// The Rust's writer at a head in bytes and a tail in bits; as there, the byte before the first is 65535.
+// The Rust's writer at a head in bytes and a tail in bits; as there, the byte before the first is 65535. At both ends it
+// is a new one.
 pub fn writer_at(len: usize, (head, tail): (usize, usize)) -> BufferWriter {
+    if (head, tail) == (0, 0) {
+        return BufferWriter::new(len);
+    }
     let byte = (len as u16).wrapping_sub(1).wrapping_sub((tail / 8) as u16);
     door::at(head, byte, 1 << (tail % 8))
 }
@@ -93,22 +97,28 @@ impl Case {
             case.extend((number as u64).to_be_bytes());
         }
         case.extend(&self.buf);
-        out.put(kind, &case, &self.answer());
+        out.put_said(kind, &case, self.panics(), || self.answer());
+    }
+
+    // The Rust panics at every write that has no room.
+    fn panics(&self) -> Option<Vec<u8>> {
+        let len = self.buf.len();
+        match self.op.tail_bits() {
+            Some(n) => (self.tail + n > 8 * len).then(|| refused(9, &[n, self.tail % 8])),
+            None => (self.head >= len).then(|| refused(10, &[self.head])),
+        }
     }
 
     fn answer(&self) -> Vec<u8> {
         let mut buf = self.buf.clone();
         let mut writer = writer_at(buf.len(), (self.head, self.tail));
-        let done = caught(|| match self.op {
+        match self.op {
             Op::Field(n) => writer.write_uint_backward(&mut buf, self.value as usize, n),
             Op::Bit => writer.write_bool_backward(&mut buf, self.value != 0),
             Op::Byte => writer.write_byte_forward(&mut buf, self.value as u8),
             Op::Top(n) => writer.write_uint_forward(&mut buf, self.value as u16, n),
-        });
-        match done {
-            None => vec![PANICKED],
-            Some(()) => written(&writer, &buf),
         }
+        written(&writer, &buf)
     }
 
     // Where the write ends: inside, in the last byte there is, exactly at its end, across it, or wholly past it.
@@ -202,10 +212,12 @@ pub fn run(out: &mut Records, seed: u64, count: usize) {
     }
 }
 
-// Of the short buffers one case of each class, by length and by bit index; then some of longer ones and far cursors.
+// A new writer in every call; of the short buffers one case of each class, by length and by bit index; then some of
+// longer ones and far cursors.
 pub fn sample(out: &mut Records) {
     let rng = &mut Rng::new(0);
     let pick = &mut Rng::new(1);
+    all_ops().into_iter().for_each(|op| Case::new(rng, op, 9, (0, 0)).put(out));
     for by_length in [true, false] {
         let mut classes = OneOfEach::new();
         exhaustive(rng, |case| {

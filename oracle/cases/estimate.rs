@@ -1,13 +1,14 @@
-// Cases of the bit estimate: a table set, and estimates by it. The sums below only aim the targets, and tell which
-// estimates are not compared; every answer is the Rust's. By document 01 the Rust's ceiling, in single precision, is
-// compared up to a sum of 16,777,216. An estimate with a larger one is left out, and counted.
+// Cases of the bit estimate: a table set, and estimates by it. Every answer is the Rust's. By document 01 its ceiling, in
+// single precision, is compared up to a sum of 16,777,216. Past that the flags, lastnz and the least bits are still the
+// Rust's, and the three numbers that ceilings decide are document 01's: exact ceilings of the sums below. These sums also
+// aim the targets, and up to that limit are held to the Rust's.
 
 use super::recording::field;
 use super::rows;
 use super::side_info::Config;
 use super::tables as stored;
 use crate::lc3::encoder::spectral_quantization::door::{self, Estimate};
-use crate::records::{Records, Rng, ACCEPTED};
+use crate::records::{returned, search, stop, Records, Rng, ACCEPTED};
 use crate::tables::{self, Set, FLAT, WIDE};
 
 // costs are in 2,048ths of a bit
@@ -37,7 +38,7 @@ pub struct Seen {
     whole: usize,
     escapes: usize,
     largest: u64,
-    // not compared; of these where the Rust's ceiling is another than the exact one, and the smallest such sum
+    // with a sum past the limit; of these where the Rust's ceiling is not the exact one, and the smallest such sum
     over: usize,
     parted: usize,
     first_parted: Option<(u64, usize, u64)>,
@@ -57,8 +58,8 @@ impl Seen {
             self.largest
         );
         eprintln!(
-            "oracle estimate: not compared, since their sum is over {}: {}; of these the Rust's ceiling is not the exact \
-             one in {}{}",
+            "oracle estimate: with a sum over {}, so that ceilings are exact ones: {}; of these the Rust's is not the \
+             exact one in {}{}",
             COMPARED,
             self.over,
             self.parted,
@@ -70,7 +71,7 @@ impl Seen {
     }
 }
 
-// The source's sum behind each pair, without the ceilings. Of every estimate that is compared it is held to the Rust's.
+// The source's sum behind each pair, without the ceilings.
 fn sums(set: &Set, frame: &Frame) -> Vec<u64> {
     let (ne, fs_ind, nbits, x_q) = (frame.of.ne(), frame.of.fs_ind, 8 * frame.bytes, &frame.lines);
     let rate_flag = if nbits > 160 + fs_ind * 160 { 512 } else { 0 };
@@ -101,6 +102,14 @@ fn sums(set: &Set, frame: &Frame) -> Vec<u64> {
 
 fn bits(sum: u64) -> u64 {
     (sum + UNIT - 1) / UNIT
+}
+
+// By exact ceilings: where lines are cut off, the bits of all lines with the least bits, and those of the lines kept.
+fn with_ceilings(frame: &Frame, sums: &[u64], target: usize, nbits_lsb: usize) -> [usize; 3] {
+    let pairs = frame.lines.chunks(2).zip(sums).enumerate();
+    let fitting = pairs.filter(|(_, (pair, sum))| pair.iter().any(|line| *line != 0) && bits(**sum) <= target as u64);
+    let (lastnz_trunc, kept) = fitting.last().map_or((2, 0), |(n, (_, sum))| (2 * n + 2, *sum));
+    [lastnz_trunc, bits(*sums.last().unwrap()) as usize + nbits_lsb, bits(kept) as usize]
 }
 
 // ---- records
@@ -134,20 +143,26 @@ impl<'a> Estimates<'a> {
     fn push(&mut self, out: &mut Records, frame: &Frame, target: usize) {
         let Config { fs_ind, duration } = frame.of;
         let mut lines = frame.lines.clone();
-        let b = door::estimate(frame.of.ne(), fs_ind, &mut lines, 8 * frame.bytes, target);
-        let sum = *sums(self.set, frame).last().unwrap();
-        if sum > COMPARED {
-            return self.left_out(sum, &b);
+        let call = || door::estimate(frame.of.ne(), fs_ind, &mut lines, 8 * frame.bytes, target);
+        let b = returned(call, || format!("{:?} {} bytes, target {}", frame.lines, frame.bytes, target));
+        if lines != frame.lines {
+            stop(&format!("the estimate alters its lines: {:?}", frame.lines));
         }
-        assert_eq!((b.nbits_est - b.nbits_lsb) as u64, bits(sum), "the sum that aims the cases is not the Rust's");
+        let sums = sums(self.set, frame);
+        let (sum, rust) = (*sums.last().unwrap(), [b.lastnz_trunc, b.nbits_est, b.nbits_trunc]);
+        let exact = with_ceilings(frame, &sums, target, b.nbits_lsb);
+        if sum <= COMPARED && rust != exact {
+            stop(&format!("the estimate is {:?}, by its sums {:?}: {:?}", rust, exact, frame.lines));
+        }
         self.saw(frame, &b, sum);
         self.list.extend([fs_ind as u8, duration as u8]);
         for number in [frame.bytes, target, frame.lines.len()] {
             self.list.extend((number as u16).to_be_bytes());
         }
         frame.lines.iter().for_each(|line| self.list.extend(line.to_be_bytes()));
+        let [lastnz_trunc, nbits_est, nbits_trunc] = exact;
         let flags = [b.rate_flag, b.mode_flag as usize];
-        for number in flags.into_iter().chain([b.lastnz, b.lastnz_trunc, b.nbits_est, b.nbits_trunc, b.nbits_lsb]) {
+        for number in flags.into_iter().chain([b.lastnz, lastnz_trunc, nbits_est, nbits_trunc, b.nbits_lsb]) {
             self.answer.extend((number as u64).to_be_bytes());
         }
         // so that there is room for one more, as long as it may be
@@ -155,17 +170,6 @@ impl<'a> Estimates<'a> {
         let is_full = TABLES + self.list.len() + 1 + self.answer.len() + longest > RECORD;
         if is_full || 1 + self.answer.len() + NUMBERS > ROOM {
             self.put(out);
-        }
-    }
-
-    fn left_out(&mut self, sum: u64, b: &Estimate) {
-        self.seen.over += 1;
-        let (rust, exact) = (b.nbits_est - b.nbits_lsb, bits(sum));
-        if rust as u64 != exact {
-            self.seen.parted += 1;
-            if self.seen.first_parted.map_or(true, |(least, ..)| sum < least) {
-                self.seen.first_parted = Some((sum, rust, exact));
-            }
         }
     }
 
@@ -177,6 +181,14 @@ impl<'a> Estimates<'a> {
         seen.whole += (sum % UNIT == 0) as usize;
         seen.escapes += frame.lines.iter().any(|line| line.unsigned_abs() >= 4) as usize;
         seen.largest = seen.largest.max(sum);
+        let (rust, exact) = (b.nbits_est - b.nbits_lsb, bits(sum));
+        seen.over += (sum > COMPARED) as usize;
+        if rust as u64 != exact {
+            seen.parted += 1;
+            if seen.first_parted.map_or(true, |(least, ..)| sum < least) {
+                seen.first_parted = Some((sum, rust, exact));
+            }
+        }
     }
 
     fn put(&mut self, out: &mut Records) {
@@ -380,11 +392,7 @@ fn with_sum(rng: &mut Rng, sum: u64) -> Option<(Set, Frame)> {
 }
 
 fn put_largest(out: &mut Records, seen: &mut Seen, rng: &mut Rng, sum: u64) {
-    let (set, frame) = loop {
-        if let Some(found) = with_sum(rng, sum) {
-            break found;
-        }
-    };
+    let (set, frame) = search("a frame with a sum", || with_sum(rng, sum));
     let mut estimates = Estimates::by(&set, seen);
     for target in [8191, 8192, 8193, 65_535] {
         estimates.push(out, &frame, target);
@@ -443,7 +451,8 @@ pub fn run(out: &mut Records, rng: &mut Rng, count: usize) -> Seen {
     seen
 }
 
-// A short frame of each kind by the flat set, by one with sums of whole bits and by any; and the largest sum.
+// A short frame of each kind by the flat set, by one with sums of whole bits and by any; the largest sum that is compared
+// whole, and larger ones.
 pub fn sample(out: &mut Records, rng: &mut Rng) -> Seen {
     let mut seen = Seen::default();
     let (whole, any) = (some_bits(rng, 1), some_bits(rng, 0));
@@ -456,7 +465,9 @@ pub fn sample(out: &mut Records, rng: &mut Rng) -> Seen {
         }
         estimates.put(out);
     }
-    put_largest(out, &mut seen, rng, COMPARED);
+    for sum in [COMPARED, COMPARED + 1, COMPARED + 300_000] {
+        put_largest(out, &mut seen, rng, sum);
+    }
     tables::lend(&FLAT);
     seen
 }

@@ -4,7 +4,7 @@
 use super::floats;
 use super::quantiser::own_offsets;
 use crate::lc3::encoder::spectral_quantization::door;
-use crate::records::{Records, Rng, ACCEPTED};
+use crate::records::{returned, Records, Rng, ACCEPTED};
 
 // the most energies that a frame has
 const ENERGIES: usize = 100;
@@ -41,7 +41,7 @@ impl Seen {
 }
 
 fn search(energies: &[f32], (offset, target): (i16, usize)) -> i16 {
-    door::gain(energies, offset, target)
+    returned(|| door::gain(energies, offset, target), || format!("{:?} {} {}", energies, offset, target))
 }
 
 fn put(out: &mut Records, seen: &mut Seen, energies: &[f32], list: &[(i16, usize)]) {
@@ -195,6 +195,43 @@ fn put_level(out: &mut Records, seen: &mut Seen, rng: &mut Rng, fives: i16) {
     }
 }
 
+// Energies that the first turn finds exactly 43 above its level, in the level's scale, and whose two costs, one number but
+// for rounding, are some ulps apart. Behind each stands an energy that brings the sum of both beside a target; the Rust's
+// own answers find it, by the half of the indices that its first turn decides for.
+fn put_above(out: &mut Records, seen: &mut Seen, rng: &mut Rng, offsets: impl Iterator<Item = i16>) {
+    for offset in offsets {
+        let level = 127.0 + offset as f32;
+        let first = floats::place((level + 43.0 * 1.4) / 1.4);
+        for energy in (first - 4..=first + 4).map(floats::at_place) {
+            let scaled = energy * 28.0 / 20.0;
+            let costs = [2.0 * scaled - 2.0 * level - 36.0 * 28.0 / 20.0, scaled - level + 7.0 * 28.0 / 20.0];
+            if scaled - 43.0 * 28.0 / 20.0 != level || costs[0] == costs[1] {
+                continue;
+            }
+            let of = (offset, 41 + rng.below(20));
+            let list = |place: u32| [energy, floats::at_place(place)];
+            let ends = [(level - 1.0) / 1.4, (level + 43.0) / 1.4].map(floats::place);
+            if let Some(last) = floats::apart(ends[0], ends[1], |place| search(&list(place), of) > 127) {
+                seen.edges += 1;
+                (last - 1..=last + 2).for_each(|place| put(out, seen, &list(place), &[of]));
+            }
+        }
+    }
+}
+
+// Offsets at the ends of 16 bits, at energies about the levels that they have, alone and before another.
+fn put_ends(out: &mut Records, seen: &mut Seen, rng: &mut Rng, each: usize) {
+    for offset in [i16::MIN, i16::MIN + 1, i16::MIN + 300, i16::MAX - 300, i16::MAX - 127, i16::MAX - 1, i16::MAX] {
+        for _ in 0..each {
+            let mut near = || (offset as f32 + floats::between(rng, -60.0, 320.0)) / 1.4;
+            let list = [near(), near()];
+            let searches: Vec<(i16, usize)> = (0..10).map(|i| (offset, 20 * i + rng.below(20))).collect();
+            put(out, seen, &list[..1], &searches);
+            put(out, seen, &list, &searches);
+        }
+    }
+}
+
 // Every offset, at a list of energies.
 fn put_offsets(out: &mut Records, seen: &mut Seen, rng: &mut Rng, list: &[f32]) {
     let searches: Vec<(i16, usize)> = (i16::MIN..=i16::MAX).map(|offset| (offset, target(rng))).collect();
@@ -207,7 +244,8 @@ fn put_some(out: &mut Records, seen: &mut Seen, rng: &mut Rng, own: &[i16], list
     put(out, seen, list, &searches);
 }
 
-// Every offset at short lists; every length with every kind of energies; energies at a level; any two specials.
+// Every offset at short lists; every length with every kind of energies; energies at a level, 43 above it, and at the ends
+// of the offsets; any two specials.
 fn systematic(out: &mut Records, seen: &mut Seen, rng: &mut Rng, own: &[i16]) {
     for (kind, len) in [(Kind::Sound, 1), (Kind::Sound, 7), (Kind::Mixed, 4)] {
         let list = energies(rng, kind, len);
@@ -222,6 +260,8 @@ fn systematic(out: &mut Records, seen: &mut Seen, rng: &mut Rng, own: &[i16]) {
     for fives in -14..=80 {
         put_level(out, seen, rng, fives);
     }
+    put_above(out, seen, rng, -1000..1000);
+    put_ends(out, seen, rng, 20);
     for first in floats::specials() {
         put_some(out, seen, rng, own, &[first], 4);
         for second in floats::specials() {
@@ -245,7 +285,7 @@ pub fn run(out: &mut Records, rng: &mut Rng, count: usize) -> Seen {
     seen
 }
 
-// No energies, and the most; some of each kind; edges and levels; special ones by two.
+// No energies, and the most; some of each kind; edges and levels; the ends of the offsets; special ones by two.
 pub fn sample(out: &mut Records, rng: &mut Rng) -> Seen {
     let (mut seen, own) = (Seen::new(), own_offsets());
     for (i, kind) in KINDS.into_iter().enumerate() {
@@ -263,6 +303,8 @@ pub fn sample(out: &mut Records, rng: &mut Rng) -> Seen {
     for fives in [-14, 0, 13] {
         put_level(out, &mut seen, rng, fives);
     }
+    put_above(out, &mut seen, rng, 180..220);
+    put_ends(out, &mut seen, rng, 2);
     let specials = floats::specials();
     for pair in specials.chunks(2) {
         put_some(out, &mut seen, rng, &own, pair, 4);

@@ -1,10 +1,11 @@
 // Cases of the quantiser: lines, each with its gain. The Rust quantises inside `quantize_spectrum`, by a gain that it
-// makes of an index and an offset, so there the gain of a case is the one that it used. For any other gain the answer is
-// that of the source's own expression, copied below. It also aims the cases, and every line of the Rust is held to it.
+// makes of an index and an offset; or by any gain, which is lent to it in place of the power that it takes. Every line is
+// the Rust's, and so is the aim.
 
 use super::floats;
 use crate::lc3::encoder::spectral_quantization::door;
-use crate::records::{Records, Rng, ACCEPTED};
+use crate::lc3::num_traits::with_power;
+use crate::records::{returned, Records, Rng, ACCEPTED};
 
 // the lines of one record
 const LINES: usize = 100;
@@ -15,18 +16,10 @@ const SUMS: std::ops::RangeInclusive<i16> = -1300..=1100;
 // Where a whole number begins: the first, those beside a power of two, the last, and the first that 16 bits do not hold.
 const WHOLE: [i32; 14] = [1, 2, 3, 4, 5, 127, 128, 1000, 16_383, 16_384, 32_765, 32_766, 32_767, 32_768];
 
-fn quantised(x: f32, gg: f32) -> i16 {
-    if x >= 0.0 {
-        (x / gg + 0.375) as i16
-    } else {
-        (x / gg - 0.375) as i16
-    }
-}
-
 #[derive(Default)]
 pub struct Seen {
-    by_rust: usize,
-    by_copy: usize,
+    own: usize,
+    lent: usize,
     gains: usize,
     // results, and a line or a gain that is a NaN
     lowest: usize,
@@ -38,9 +31,9 @@ pub struct Seen {
 impl Seen {
     pub fn say(&self) {
         eprintln!(
-            "oracle quantiser: {} lines by the Rust at {} gains of its own, {} by its expression at any gain; -32768: \
-             {}, 32767: {}, 0: {}; with a NaN: {}",
-            self.by_rust, self.gains, self.by_copy, self.lowest, self.highest, self.zero, self.nan
+            "oracle quantiser: {} lines at {} gains of the Rust's own, {} at gains that are lent; -32768: {}, 32767: {}, \
+             0: {}; with a NaN: {}",
+            self.own, self.gains, self.lent, self.lowest, self.highest, self.zero, self.nan
         );
     }
 }
@@ -79,47 +72,50 @@ impl Lines {
     }
 
     // Lines at the gain that the Rust makes of an index and an offset.
-    fn by_rust(&mut self, out: &mut Records, (index, offset): (i16, i16), lines: impl FnOnce(f32) -> Vec<f32>) {
-        let lines = lines(gain(index, offset));
+    fn own(&mut self, out: &mut Records, (index, offset): (i16, i16), lines: impl FnOnce(f32) -> Vec<f32>) {
+        let lines = lines(quantised(index, offset, &[0.0, 0.0]).0);
         // the Rust takes no empty list
         if lines.is_empty() {
             return;
         }
-        let (gain, quantised_lines) = by_rust(index, offset, &lines);
+        let (gain, quantised_lines) = quantised(index, offset, &lines);
         self.seen.gains += 1;
-        self.seen.by_rust += lines.len();
+        self.seen.own += lines.len();
         for (x, line) in lines.into_iter().zip(quantised_lines) {
-            assert_eq!(line, quantised(x, gain), "the copied expression is not the Rust's at {:?} {:?}", x, gain);
             self.push(out, x, gain, line);
         }
     }
 
-    fn by_copy(&mut self, out: &mut Records, x: f32, gain: f32) {
-        self.seen.by_copy += 1;
-        self.push(out, x, gain, quantised(x, gain));
+    // A line at a gain that is lent.
+    fn lent(&mut self, out: &mut Records, x: f32, gain: f32) {
+        self.seen.lent += 1;
+        self.push(out, x, gain, by_gain(x, gain));
     }
 }
 
 // The gain that the Rust uses, and the lines as it quantises them.
-fn by_rust(index: i16, offset: i16, lines: &[f32]) -> (f32, Vec<i16>) {
+fn quantised(index: i16, offset: i16, lines: &[f32]) -> (f32, Vec<i16>) {
     let mut x_f = lines.to_vec();
     // it takes them by pairs
     x_f.resize(lines.len() + lines.len() % 2, 0.0);
     let mut x_q = vec![0; x_f.len()];
     // no sum passes this target, so no line is cleared
-    let gain = door::quantise(0, &x_f, &mut x_q, 160, [offset, index], usize::MAX);
+    let call = || door::quantise(0, &x_f, &mut x_q, 160, [offset, index], usize::MAX);
+    let gain = returned(call, || format!("{:?} {} {}", lines, index, offset));
     x_q.truncate(lines.len());
     (gain, x_q)
 }
 
-fn gain(index: i16, offset: i16) -> f32 {
-    by_rust(index, offset, &[0.0, 0.0]).0
+fn by_gain(x: f32, gain: f32) -> i16 {
+    let (used, lines) = with_power(gain, || quantised(0, 0, &[x]));
+    assert!(used.to_bits() == gain.to_bits(), "the Rust takes another gain than the one that is lent to it");
+    lines[0]
 }
 
 // The lines beside the place where a whole number begins, of both signs; none where no line reaches it.
 fn beside(gain: f32, whole: i32) -> Vec<f32> {
     // by lines below 0, since at a gain above 0 these reach 32768 too
-    let reaches = |bits: u32| quantised(-f32::from_bits(bits), gain).unsigned_abs() as i32 >= whole;
+    let reaches = |bits: u32| by_gain(-f32::from_bits(bits), gain).unsigned_abs() as i32 >= whole;
     let last = floats::apart(0, f32::MAX.to_bits(), reaches);
     let around = last.into_iter().flat_map(|last| last.saturating_sub(1)..=last + 2);
     around.flat_map(|bits| [bits, bits | 0x8000_0000]).map(f32::from_bits).collect()
@@ -156,7 +152,7 @@ fn random_gain(rng: &mut Rng) -> f32 {
 // every special line at every special gain.
 fn systematic(lines: &mut Lines, rng: &mut Rng, out: &mut Records) {
     for sum in SUMS {
-        lines.by_rust(out, of_sum(sum), |gain| {
+        lines.own(out, of_sum(sum), |gain| {
             let mut all: Vec<f32> = WHOLE.into_iter().flat_map(|whole| beside(gain, whole)).collect();
             all.extend((0..8).map(|_| floats::special(rng)));
             all
@@ -164,13 +160,13 @@ fn systematic(lines: &mut Lines, rng: &mut Rng, out: &mut Records) {
     }
     for offset in own_offsets() {
         for index in 0..=255 {
-            lines.by_rust(out, (index, offset), |gain| beside(gain, 1 + rng.below(32_768) as i32));
+            lines.own(out, (index, offset), |gain| beside(gain, 1 + rng.below(32_768) as i32));
         }
     }
     for gain in floats::specials() {
-        floats::specials().into_iter().for_each(|x| lines.by_copy(out, x, gain));
+        floats::specials().into_iter().for_each(|x| lines.lent(out, x, gain));
         for whole in WHOLE {
-            beside(gain, whole).into_iter().for_each(|x| lines.by_copy(out, x, gain));
+            beside(gain, whole).into_iter().for_each(|x| lines.lent(out, x, gain));
         }
     }
 }
@@ -180,19 +176,19 @@ fn random(lines: &mut Lines, rng: &mut Rng, out: &mut Records) {
     match rng.below(4) {
         0 => {
             let sum = SUMS.start() + rng.below(SUMS.len()) as i16;
-            lines.by_rust(out, of_sum(sum), |_| (0..8).map(|_| floats::any(rng)).collect())
+            lines.own(out, of_sum(sum), |_| (0..8).map(|_| floats::any(rng)).collect())
         }
         1 => {
             let gain = random_gain(rng);
-            (0..8).for_each(|_| lines.by_copy(out, floats::any(rng), gain));
+            (0..8).for_each(|_| lines.lent(out, floats::any(rng), gain));
         }
         2 => {
             let gain = random_gain(rng);
-            (0..8).for_each(|_| lines.by_copy(out, floats::between(rng, -40_000.0, 40_000.0) * gain, gain));
+            (0..8).for_each(|_| lines.lent(out, floats::between(rng, -40_000.0, 40_000.0) * gain, gain));
         }
         _ => {
             let (gain, whole) = (random_gain(rng), 1 + rng.below(32_768) as i32);
-            beside(gain, whole).into_iter().for_each(|x| lines.by_copy(out, x, gain));
+            beside(gain, whole).into_iter().for_each(|x| lines.lent(out, x, gain));
         }
     }
 }
@@ -213,14 +209,14 @@ pub fn run(out: &mut Records, rng: &mut Rng, count: usize) -> Seen {
 pub fn sample(out: &mut Records, rng: &mut Rng) -> Seen {
     let mut lines = Lines::default();
     for (i, sum) in (-1260..=1080).step_by(60).enumerate() {
-        lines.by_rust(out, of_sum(sum), |gain| beside(gain, WHOLE[i % WHOLE.len()]));
+        lines.own(out, of_sum(sum), |gain| beside(gain, WHOLE[i % WHOLE.len()]));
     }
     for whole in WHOLE {
-        beside(1.0, whole).into_iter().for_each(|x| lines.by_copy(out, x, 1.0));
+        beside(1.0, whole).into_iter().for_each(|x| lines.lent(out, x, 1.0));
     }
     for x in floats::specials() {
         for _ in 0..6 {
-            lines.by_copy(out, x, floats::special(rng));
+            lines.lent(out, x, floats::special(rng));
         }
     }
     for _ in 0..60 {

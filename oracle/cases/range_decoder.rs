@@ -1,10 +1,11 @@
 // Cases of the range decoder: its start at every place of short buffers, single steps around every limit, and chains of
 // steps through one frame. The limits below only aim the cases; every answer is the Rust's.
 
+use super::buffer_reader::{cursors, reader_at};
 use super::rows::{self, Row, TOTAL};
 use crate::lc3::decoder::arithmetic_codec::{door, ArithmeticCodecError};
-use crate::lc3::decoder::buffer_reader::{BufferReader, BufferReaderError};
-use crate::records::{caught, refused, OneOfEach, Records, Rng, ACCEPTED, PANICKED};
+use crate::lc3::decoder::buffer_reader::BufferReaderError;
+use crate::records::{hold, refused, search, OneOfEach, Records, Rng, ACCEPTED};
 
 // the largest cursor that is compared
 const FAR: usize = 65_535;
@@ -25,11 +26,6 @@ fn put_cursors(to: &mut Vec<u8>, (head, tail): (usize, usize)) {
     }
 }
 
-// Where the Rust's reader stands.
-fn cursors(reader: &BufferReader) -> (usize, usize) {
-    (reader.get_head_byte_cursor(), reader.get_tail_bit_cursor())
-}
-
 fn refusal(error: ArithmeticCodecError) -> Vec<u8> {
     match error {
         ArithmeticCodecError::AcRangeFlOutOfRange(low, limit) => refused(11, &[low as usize, limit as usize]),
@@ -45,19 +41,23 @@ fn put_start(out: &mut Records, at: (usize, usize), buf: &[u8]) {
     // in place of a state
     case.extend([0; 8]);
     case.extend(buf);
-    let mut reader = BufferReader::new_at(at.0, at.1);
-    let answer = match caught(|| door::start(buf, &mut reader)) {
-        None => vec![PANICKED],
-        Some(Err(error)) => refusal(error),
-        Some(Ok((low, range))) => {
-            let mut answer = vec![ACCEPTED];
-            answer.extend(low.to_be_bytes());
-            answer.extend(range.to_be_bytes());
-            put_cursors(&mut answer, cursors(&reader));
-            answer
+    // the Rust has no panic here
+    out.put_said(12, &case, None, || {
+        let mut reader = reader_at(at);
+        match door::start(buf, &mut reader) {
+            Err(error) => {
+                hold(cursors(&reader) == at, "a refused start moves a cursor");
+                refusal(error)
+            }
+            Ok((low, range)) => {
+                let mut answer = vec![ACCEPTED];
+                answer.extend(low.to_be_bytes());
+                answer.extend(range.to_be_bytes());
+                put_cursors(&mut answer, cursors(&reader));
+                answer
+            }
         }
-    };
-    out.put(12, &case, &answer);
+    });
 }
 
 // Steps behind one another, each by a row of the list; the first that is refused is the last.
@@ -88,24 +88,31 @@ impl Steps {
         // the symbols are not told
         rows::put_list(&mut case, self.list.iter().map(|row| (*row, 0)));
         case.extend(&self.buf);
-        let answer = caught(|| self.answer(seen)).unwrap_or(vec![PANICKED]);
-        out.put(13, &case, &answer);
+        // nor here
+        out.put_said(13, &case, None, || self.answer(seen));
     }
 
     // The answers of the steps behind one another.
     fn answer(&self, seen: &mut Seen) -> Vec<u8> {
-        let mut reader = BufferReader::new_at(self.at.0, self.at.1);
+        let mut reader = reader_at(self.at);
         let mut state = self.state;
         let mut answer = Vec::new();
         for row in self.list.iter().map(|row| &self.rows[*row]) {
-            let head = cursors(&reader).0;
+            let before = (state, cursors(&reader));
+            let (head, tail) = before.1;
             let result = door::symbol(&self.buf, &mut reader, &mut state, &row.cumulative, &row.frequency);
             let bytes = cursors(&reader).0 - head;
             match result {
                 Err(error) => {
                     match error {
-                        ArithmeticCodecError::AcRangeFlOutOfRange(..) => seen.beyond += 1,
-                        ArithmeticCodecError::BufferReader(_) => seen.short[bytes] += 1,
+                        ArithmeticCodecError::AcRangeFlOutOfRange(..) => {
+                            hold((state, cursors(&reader)) == before, "a step that is refused 11 alters something");
+                            seen.beyond += 1
+                        }
+                        ArithmeticCodecError::BufferReader(_) => {
+                            hold(cursors(&reader).1 == tail, "a step moves the tail");
+                            seen.short[bytes] += 1
+                        }
                     }
                     answer.extend(refusal(error));
                     break;
@@ -123,13 +130,14 @@ impl Steps {
         answer
     }
 
-    // Of a single step: whether low is beyond the limit, or begins a part, or ends it, or lies within; whether the part is
-    // the row's first or last; the bytes that the step wants, and those that are there, as far as it comes to them.
+    // Of a single step: whether low is at the limit or beyond it, or begins a part, or ends it, or lies within; whether the
+    // part is the row's first or last; the bytes that the step wants, and those that are there, as far as it comes to them.
     fn class(&self) -> (usize, bool, bool, usize, Option<usize>) {
         let (low, range) = self.state;
         let (row, unit) = (&self.rows[0], range >> 10);
-        if low >= unit * TOTAL as u32 {
-            return (3, low < range, low > 0xffffff, 0, None);
+        let limit = unit * TOTAL as u32;
+        if low >= limit {
+            return (3 + (low == limit) as usize, low < range, low > 0xffffff, 0, None);
         }
         let symbol = row.owner((low / unit) as usize);
         let width = unit * row.frequency[symbol] as u32;
@@ -311,18 +319,17 @@ pub fn sample(out: &mut Records) {
     let mut classes = OneOfEach::new();
     limits(rng, &short, |steps| classes.take(pick, steps.class(), steps));
     classes.cases().for_each(|steps| steps.put(out, seen));
-    for low in [0, 16383 * 1023 - 1, 16383 * 1024 - 1] {
+    for low in [0, 16383 * 1023 - 1, 16383 * 1024 - 1, 16383 * 1024] {
         single(rng, (low, 0xffffff), rows::flat(TOTAL), Some(1)).put(out, seen);
     }
-    let mut left = 16;
-    while left > 0 {
-        let mut steps = chain(rng);
+    for _ in 0..16 {
+        let mut steps = search("a chain by short rows", || {
+            let steps = chain(rng);
+            (steps.rows.iter().map(Row::len).sum::<usize>() < 80).then_some(steps)
+        });
         steps.list.truncate(24);
         steps.buf.truncate(30);
-        if steps.rows.iter().map(Row::len).sum::<usize>() < 80 {
-            steps.put(out, seen);
-            left -= 1;
-        }
+        steps.put(out, seen);
     }
     seen.say();
 }

@@ -1,10 +1,12 @@
-// Cases of the range encoder: runs of symbols from its start to the finished bytes, in the crate reading, as the Rust
-// sends them; and the same lists in the standard reading, which have to come back whatever stands behind their own bits.
-// The aim below only chooses the symbols; every answer of the crate reading is the Rust's.
+// Cases of the range encoder: runs of symbols from its start to the finished bytes, in the crate reading as the Rust sends
+// them, in the standard reading as the Rust with the standard's one mask does; and the same lists in the standard reading,
+// which have to come back whatever stands behind their own bits. The aim below only chooses the symbols; every answer of a
+// run is the Rust's.
 
 use super::rows::{self, Row, TOTAL};
-use crate::lc3::encoder::bitstream_encoding::door::{self, State};
-use crate::records::{caught, OneOfEach, Records, Rng, ACCEPTED, PANICKED};
+use crate::lc3::coder::State;
+use crate::lc3::encoder::{bitstream_encoding::door, standard_encoding};
+use crate::records::{search, OneOfEach, Records, Rng, ACCEPTED};
 
 // the longest list; what it gives back has to fit into what vectors sets aside for an answer
 const LONGEST: usize = 500;
@@ -31,11 +33,23 @@ fn reserved(at: State) -> usize {
     8 * shifts(at) + 25 - log
 }
 
+// What the finish leaves behind a state; a reading is 0, the crate's, or 1, the standard's.
+fn finished_in(reading: u8, at: State, bytes: &mut [u8]) -> State {
+    match reading {
+        0 => door::finished(at, bytes),
+        _ => standard_encoding::door::finished(at, bytes),
+    }
+}
+
+fn finished(at: State, bytes: &mut [u8]) -> State {
+    finished_in(0, at, bytes)
+}
+
 // How many top bits of the byte at `end` the finish sends: those that are the same whatever stood there.
-fn last_bits(at: State, end: usize, len: usize) -> usize {
+fn last_bits(reading: u8, at: State, end: usize, len: usize) -> usize {
     let sent = [0x00, 0xff].map(|fill| {
         let mut bytes = vec![fill; len];
-        finished(at, &mut bytes);
+        finished_in(reading, at, &mut bytes);
         bytes[end]
     });
     (sent[0] ^ sent[1]).leading_zeros() as usize
@@ -75,44 +89,43 @@ impl List {
         vec![0; 2 * self.sent.len() + 4]
     }
 
-    fn put(&self, out: &mut Records, kind: u8, buf: &[u8], answer: &[u8]) {
+    fn in_case(&self, buf: &[u8]) -> Vec<u8> {
         let mut case = Vec::new();
         rows::put(&mut case, &self.rows);
         rows::put_list(&mut case, self.sent.iter().copied());
         case.extend(buf);
-        out.put(kind, &case, answer);
+        case
     }
 
-    // The run in the crate reading, into `buf`.
-    fn put_run(&self, out: &mut Records, buf: &[u8]) {
-        let answer = caught(|| {
+    // The run in a reading, into `buf`. The Rust has no panic here.
+    fn put_run(&self, out: &mut Records, reading: u8, buf: &[u8]) {
+        out.put_said([14, 19][reading as usize], &self.in_case(buf), None, || {
             let mut bytes = buf.to_vec();
             let at = *self.states(&mut bytes).last().unwrap();
             let forecast = door::forecast(&door::coder(at));
-            let end = finished(at, &mut bytes).bp;
+            let end = finished_in(reading, at, &mut bytes).bp;
             let mut answer = vec![ACCEPTED];
             for number in [at.low, at.range, at.cache.max(0) as u32, at.carry as u32] {
                 answer.extend(number.to_be_bytes());
             }
-            let (held, bits) = ((at.cache >= 0) as usize, last_bits(at, end, buf.len()));
+            let (held, bits) = ((at.cache >= 0) as usize, last_bits(reading, at, end, buf.len()));
             for number in [held, at.carry_count as usize, at.bp, reserved(at), forecast, end, bits] {
                 answer.extend((number as u64).to_be_bytes());
             }
             answer.extend(bytes);
             answer
         });
-        self.put(out, 14, buf, &answer.unwrap_or(vec![PANICKED]));
     }
 
     // The round trip in the standard reading: the answer is the list, and none of the Rust's.
     fn put_back(&self, out: &mut Records, behind: &[u8]) {
         let mut answer = vec![ACCEPTED];
         self.sent.iter().for_each(|(_, symbol)| answer.extend((*symbol as u64).to_be_bytes()));
-        self.put(out, 15, behind, &answer);
+        out.put(15, &self.in_case(behind), &answer);
     }
 
-    // Both, each in a buffer of random bytes that is at times as short as it may be, and never `most` bytes longer.
-    fn put_both(&self, rng: &mut Rng, most: usize, out: &mut Records, seen: &mut Seen) {
+    // All three, in buffers of random bytes that are at times as short as they may be, and never `most` bytes longer.
+    fn put_all(&self, rng: &mut Rng, most: usize, out: &mut Records, seen: &mut Seen) {
         let mut bytes = self.roomy();
         let states = self.states(&mut bytes);
         seen.take(&states, &mut bytes);
@@ -125,7 +138,9 @@ impl List {
         };
         // the decoder takes three bytes, and one for each shift
         let (run, back) = (least + more(), shifts(last) + 3 + more());
-        self.put_run(out, &rng.bytes(run));
+        let before = rng.bytes(run);
+        self.put_run(out, 0, &before);
+        self.put_run(out, 1, &before);
         self.put_back(out, &rng.bytes(back));
     }
 }
@@ -175,13 +190,6 @@ fn carried_most(states: &[State], end: State, bytes: &[u8]) -> i32 {
     all.windows(2).map(|two| carried_through(two[0], two[1], bytes)).max().unwrap()
 }
 
-// What the finish leaves behind a state.
-fn finished(at: State, bytes: &mut [u8]) -> State {
-    let mut coder = door::coder(at);
-    door::finish(&mut coder, bytes);
-    door::state(&coder)
-}
-
 impl Seen {
     // The states of a run, and the bytes that it left; these are finished here.
     fn take(&mut self, states: &[State], bytes: &mut [u8]) {
@@ -204,7 +212,7 @@ impl Seen {
 
     fn say(&self) {
         eprintln!(
-            "oracle range_encoder: {} runs of {} symbols, each run both ways; symbols that shift two bytes: {}; runs where 3 \
+            "oracle range_encoder: {} lists of {} symbols, each in both readings and back; symbols that shift two bytes: {}; runs where 3 \
              or more 0xFFs wait: {} (at most {}), where a carry passes through them: {}, through 3 or more: {}; that end \
              with 0xFFs waiting: {}, and send them last: {}; that end with no byte in the cache: {}; where the readings \
              part in the finish: {}",
@@ -375,44 +383,75 @@ fn reaching(rng: &mut Rng, at: State, aim: Aim) -> Option<(usize, usize)> {
 
 // A list whose last symbol, by a row of its own, reaches the aim; lists are tried at each of their places until one does.
 fn aimed(rng: &mut Rng, aim: Aim) -> List {
-    loop {
+    search("a list that reaches its aim", || {
         let len = 1 + rng.below(20);
         let rows = vec![rows::any(rng, len)];
         let sent = (0..20).map(|_| (0, rows[0].owner(rng.below(TOTAL)))).collect();
         let mut list = List { rows, sent };
-        for (i, at) in list.states(&mut list.roomy()).into_iter().enumerate() {
-            if let Some((begin, frequency)) = reaching(rng, at, aim) {
-                let parts = [begin, frequency, TOTAL - begin - frequency];
-                list.rows.push(Row::new(parts.into_iter().filter(|n| *n > 0).map(|n| n as i16).collect()));
-                list.sent.truncate(i);
-                list.sent.push((1, (begin > 0) as usize));
-                return list;
-            }
-        }
-    }
+        let mut states = list.states(&mut list.roomy()).into_iter().enumerate();
+        let (i, (begin, frequency)) = states.find_map(|(i, at)| Some((i, reaching(rng, at, aim)?)))?;
+        let parts = [begin, frequency, TOTAL - begin - frequency];
+        list.rows.push(Row::new(parts.into_iter().filter(|n| *n > 0).map(|n| n as i16).collect()));
+        list.sent.truncate(i);
+        list.sent.push((1, (begin > 0) as usize));
+        Some(list)
+    })
+}
+
+// A list through which so many 0xFFs wait. It leads just past a number that ends in as many zeros, so that a carry passes
+// through them at last, or just before it, so that none does; or it ends before that is known.
+fn waiting(rng: &mut Rng, count: usize, fill: u8, behind: usize) -> List {
+    let rows = vec![rows::flat(TOTAL)];
+    let mut to = vec![0x12, 0x34];
+    to.extend(vec![fill; count]);
+    to.extend([0x40, 0x99, 0x17]);
+    // a symbol has ten bits
+    List { sent: towards(rng, &rows, &to, 8 * (2 + count) / 10 + behind), rows }
+}
+
+// A list at whose end so many 0xFFs, or a few less, still wait, and the finish sends them all.
+fn held(rng: &mut Rng, count: usize) -> List {
+    search("a list whose finish sends what waits", || {
+        let rows = vec![rows::flat(TOTAL), rows::flat(17)];
+        let mut to = vec![0x12, 0x34];
+        to.extend(vec![0xff; count]);
+        to.extend([0xfe, rng.next() as u8, rng.next() as u8]);
+        let mut list = List { sent: towards(rng, &rows, &to, LONGEST), rows };
+        let mut bytes = list.roomy();
+        let states = list.states(&mut bytes);
+        let mut waits = |at: &State| at.carry_count as usize + 8 > count && finished(*at, &mut bytes).carry_count > 0;
+        list.sent.truncate(states.iter().position(&mut waits)?);
+        Some(list)
+    })
 }
 
 pub fn run(out: &mut Records, seed: u64, count: usize) {
     let rng = &mut Rng::new(seed);
     let seen = &mut Seen::default();
-    systematic(|list| list.put_both(rng, 400, out, seen));
+    systematic(|list| list.put_all(rng, 400, out, seen));
     for aim in AIMS {
-        (0..30).for_each(|_| aimed(rng, aim).put_both(rng, 400, out, seen));
+        (0..30).for_each(|_| aimed(rng, aim).put_all(rng, 400, out, seen));
+    }
+    for count in [3, 60, 254, 255, 256, 257, 258, 300, 400] {
+        for (fill, behind) in [(0x00, 0), (0x00, 8), (0xff, 0), (0xff, 8)] {
+            waiting(rng, count, fill, behind).put_all(rng, 400, out, seen);
+        }
+        held(rng, count).put_all(rng, 400, out, seen);
     }
     for _ in 0..count / RUNS {
-        random(rng).put_both(rng, 400, out, seen);
+        random(rng).put_all(rng, 400, out, seen);
     }
     seen.say();
 }
 
-// Short lists by short rows: of each aim some, of the systematic and of random ones one of each class; one by the longest
-// row.
+// Short lists by short rows: of each aim some, of the systematic and of random ones one of each class; by the longest row
+// a short one, and some through which 0xFFs wait for long.
 pub fn sample(out: &mut Records) {
     let rng = &mut Rng::new(0);
     let pick = &mut Rng::new(1);
     let seen = &mut Seen::default();
     for aim in AIMS {
-        (0..2).for_each(|_| aimed(rng, aim).put_both(rng, 8, out, seen));
+        (0..2).for_each(|_| aimed(rng, aim).put_all(rng, 8, out, seen));
     }
     let mut classes = OneOfEach::new();
     systematic(|list| {
@@ -426,7 +465,11 @@ pub fn sample(out: &mut Records) {
             classes.take(pick, list.class(), list)
         }
     }
-    classes.cases().for_each(|list| list.put_both(rng, 8, out, seen));
-    List { rows: vec![rows::flat(TOTAL)], sent: vec![(0, 1023), (0, 0)] }.put_both(rng, 8, out, seen);
+    classes.cases().for_each(|list| list.put_all(rng, 8, out, seen));
+    List { rows: vec![rows::flat(TOTAL)], sent: vec![(0, 1023), (0, 0)] }.put_all(rng, 8, out, seen);
+    for (fill, behind) in [(0x00, 0), (0x00, 8), (0xff, 0), (0xff, 8)] {
+        waiting(rng, 300, fill, behind).put_all(rng, 8, out, seen);
+    }
+    held(rng, 300).put_all(rng, 8, out, seen);
     seen.say();
 }

@@ -1,9 +1,9 @@
 // Cases of recordings. Of each frame the side information, read, and what was read written back; of each file its table
 // set, and of the first file's also damaged ones.
 
-use super::side_info::{put, Config, Read};
+use super::side_info::{in_case, Config, Read};
 use super::tables;
-use crate::records::{Records, ACCEPTED};
+use crate::records::{self, Records, ACCEPTED};
 
 // The tag and the content of the field at the front, if all of it is there.
 pub fn field(bytes: &[u8]) -> Option<(u8, &[u8])> {
@@ -39,13 +39,15 @@ fn recording(bytes: &[u8]) -> Result<Recording<'_>, usize> {
 
 // What the Rust reads of a frame, and what it read written back; of a refused frame there is nothing to write.
 fn put_frame(out: &mut Records, of: Config, frame: &[u8]) {
-    let (read, tail) = Read { of, at: (0, 0), frame: frame.to_vec() }.answer();
-    put(out, 9, of, (0, 0), [frame, &[]], &read);
+    let case = Read { of, at: (0, 0), frame: frame.to_vec() };
+    case.put(out);
+    let read = case.answer();
     if read[0] != ACCEPTED {
         return;
     }
     // in the answer the record stands before the two cursors
     let record = &read[1..read.len() - 16];
+    let tail = case.walk().tail;
     // before the write the side information's own bits are all wrong, so that one left unwritten shows
     let mut before = frame.to_vec();
     for bit in 0..tail {
@@ -57,7 +59,7 @@ fn put_frame(out: &mut Records, of: Config, frame: &[u8]) {
         written.extend((cursor as u64).to_be_bytes());
     }
     written.extend(frame);
-    put(out, 10, of, (0, 0), [record, &before], &written);
+    out.put(10, &in_case(of, (0, 0), [record, &before]), &written);
 }
 
 // Returns how many frames there were. Every file is judged before the first record is written.
@@ -68,6 +70,10 @@ pub fn run(out: &mut Records, files: &[String]) -> usize {
     for (file, bytes) in files.iter().zip(&contents) {
         match recording(bytes) {
             Ok(Recording { frames, tables }) => {
+                if frames.is_empty() {
+                    stop(file, "this recording has no frame");
+                }
+                eprintln!("oracle recording {}: {} frames", file.rsplit('/').next().unwrap_or(file), frames.len());
                 all.extend(frames);
                 // a recording may come without its tables
                 if let [Some(a), Some(b), Some(c), Some(d), Some(e)] = tables {
@@ -88,6 +94,5 @@ pub fn run(out: &mut Records, files: &[String]) -> usize {
 }
 
 fn stop(file: &str, why: &str) -> ! {
-    eprintln!("oracle: {}: {}", file, why);
-    std::process::exit(1)
+    records::stop(&format!("{}: {}", file, why))
 }

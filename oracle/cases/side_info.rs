@@ -1,8 +1,10 @@
 // Cases of the side information, read and written: every configuration, shape and limit, and room ending at each field.
-// Frames are laid out here by document 01, which only aims the cases; every answer is the Rust's.
+// Frames are laid out here by document 01, which only aims the cases, and read by its order of fields, which tells where
+// the Rust panics and where its reader ends; every answer is the Rust's, but where it panics.
 
+use super::buffer_reader::{bytes_of, cursors, reader_at};
 use super::buffer_writer::{writer_at, written};
-use crate::lc3::decoder::buffer_reader::{BufferReader, BufferReaderError::*};
+use crate::lc3::decoder::buffer_reader::BufferReaderError::*;
 use crate::lc3::decoder::side_info_reader::{read, SideInfoError::*};
 use crate::lc3::encoder::bandwidth_detector::BandwidthDetectorResult;
 use crate::lc3::encoder::bitstream_encoding::door;
@@ -10,7 +12,7 @@ use crate::lc3::encoder::long_term_post_filter::LongTermPostFilterResult;
 use crate::lc3::encoder::spectral_noise_shaping::SnsResult;
 use crate::lc3::encoder::spectral_quantization::SpectralQuantizationResult;
 use crate::lc3::encoder::temporal_noise_shaping::TnsResult;
-use crate::records::{caught, refused, OneOfEach, Records, Rng, ACCEPTED, PANICKED};
+use crate::records::{hold, refused, OneOfEach, Records, Rng, ACCEPTED};
 
 // the shortest frame
 const SHORT: usize = 20;
@@ -18,6 +20,8 @@ const SHORT: usize = 20;
 const FAR: usize = 65_535;
 // the most bits that the side information takes
 const MOST: usize = 74;
+// a frame that also has room for what `encode` writes behind it, all lines 0
+const LONG: usize = 160;
 // the joint index of 25 bits has 14 blocks of this length: 2 of shape 1, then 12 of shape 0
 const BLOCK: usize = 2_390_004;
 const BLOCKS: usize = 14;
@@ -186,8 +190,9 @@ impl Record {
             tns: TnsResult {
                 lpc_weighting: 0,
                 num_tns_filters: 1 + (self.bandwidth >= 3) as usize,
-                rc_order: self.tns,
-                rc_i: [0; 16],
+                // a flag stands for any order but 0
+                rc_order: [0, 1].map(|f| self.tns[f] * (1 + (self.gain + 3 * f) % 8)),
+                rc_i: std::array::from_fn(|k| (self.lf + k) % 17),
             },
             post_filter: LongTermPostFilterResult {
                 pitch_present: self.pitch == 1,
@@ -222,13 +227,88 @@ fn lay(frame: &mut [u8], tail: usize, fields: &[(usize, usize)]) {
     }
 }
 
-pub fn put(out: &mut Records, kind: u8, of: Config, (head, tail): (usize, usize), rest: [&[u8]; 2], answer: &[u8]) {
+// The bit at a tail place.
+fn bit_at(frame: &[u8], tail: usize) -> usize {
+    (frame[frame.len() - 1 - tail / 8] >> (tail % 8)) as usize & 1
+}
+
+// The fields of a frame in document 01's order, up to the first refusal.
+pub struct Walk<'a> {
+    frame: &'a [u8],
+    head: usize,
+    pub tail: usize,
+    refusal: Option<Vec<u8>>,
+    // the refusal is one that the Rust does not have
+    panics: bool,
+}
+
+impl Walk<'_> {
+    fn refuse(&mut self, is_so: bool, number: u8, values: &[usize]) -> bool {
+        if is_so && self.refusal.is_none() {
+            self.refusal = Some(refused(number, values));
+        }
+        self.refusal.is_some()
+    }
+
+    fn value(&mut self, width: usize) -> usize {
+        let value = (0..width).map(|k| bit_at(self.frame, self.tail + k) << k).sum();
+        self.tail += width;
+        value
+    }
+
+    fn field(&mut self, width: usize) -> usize {
+        let (byte, b) = (self.tail / 8, self.tail % 8);
+        let is_past = width > 0 && bytes_of(width, b) + self.head + byte > self.frame.len();
+        if self.refuse(is_past, 9, &[width, b]) {
+            return 0;
+        }
+        self.value(width)
+    }
+
+    fn bit(&mut self) -> usize {
+        let (byte, b, len) = (self.tail / 8, self.tail % 8, self.frame.len());
+        let (is_past, is_outside, goes_on) = (self.head + byte > len + 2, byte >= len, self.refusal.is_none());
+        if self.refuse(is_past || is_outside, 9, &[1, b]) {
+            self.panics |= goes_on && !is_past;
+            return 0;
+        }
+        self.value(1)
+    }
+
+    fn all(&mut self, of: Config) {
+        let bandwidth = self.field(of.bandwidth_bits());
+        self.refuse(bandwidth > of.fs_ind, 5, &[bandwidth]);
+        let lastnz = 2 * (self.field(of.lastnz_bits()) + 1);
+        self.refuse(lastnz > of.ne(), 6, &[lastnz, of.ne()]);
+        self.bit();
+        self.field(8);
+        self.bit();
+        if bandwidth >= 3 {
+            self.bit();
+        }
+        let pitch = self.bit();
+        self.field(5);
+        self.field(5);
+        let msb = self.bit();
+        self.field(1 + msb);
+        self.bit();
+        let joint = self.field(25 - msb);
+        self.refuse(joint >= [BLOCKS * BLOCK, END_24][msb], 7 + msb as u8, &[joint]);
+        if pitch == 1 {
+            self.bit();
+            self.field(9);
+        }
+        self.field(3);
+    }
+}
+
+pub fn in_case(of: Config, (head, tail): (usize, usize), rest: [&[u8]; 2]) -> Vec<u8> {
     let mut case = vec![of.fs_ind as u8, of.duration as u8];
     for cursor in [head, tail] {
         case.extend((cursor as u64).to_be_bytes());
     }
     rest.iter().for_each(|part| case.extend(*part));
-    out.put(kind, &case, answer);
+    case
 }
 
 pub struct Read {
@@ -244,19 +324,29 @@ impl Read {
         Read { of, at, frame }
     }
 
-    fn put(&self, out: &mut Records) {
-        put(out, 9, self.of, self.at, [&self.frame, &[]], &self.answer().0);
+    pub fn put(&self, out: &mut Records) {
+        let walk = self.walk();
+        let panics = walk.refusal.filter(|_| walk.panics);
+        out.put_said(9, &in_case(self.of, self.at, [&self.frame, &[]]), panics, || self.answer());
     }
 
-    // The answer, and how many bits were read before it.
-    pub fn answer(&self) -> (Vec<u8>, usize) {
-        let mut reader = BufferReader::new_at(self.at.0, self.at.1);
-        let result = caught(|| read(&self.frame, &mut reader, self.of.fs_ind, self.of.ne()));
-        let (head, tail) = (reader.get_head_byte_cursor(), reader.get_tail_bit_cursor());
-        let answer = match result {
-            None => vec![PANICKED],
-            Some(Ok(side)) => {
+    pub fn walk(&self) -> Walk<'_> {
+        let (head, tail) = self.at;
+        let mut walk = Walk { frame: &self.frame, head, tail, refusal: None, panics: false };
+        walk.all(self.of);
+        walk
+    }
+
+    pub fn answer(&self) -> Vec<u8> {
+        let mut reader = reader_at(self.at);
+        let result = read(&self.frame, &mut reader, self.of.fs_ind, self.of.ne());
+        let ((head, tail), walk) = (cursors(&reader), self.walk());
+        hold((head, tail) == (walk.head, walk.tail), "the reader ends elsewhere");
+        match result {
+            Ok(side) => {
                 let (sns, filter) = (&side.sns_vq, &side.long_term_post_filter_info);
+                let filters = 1 + (side.bandwidth as usize >= 3) as usize;
+                hold(side.num_tns_filters == filters, "another number of TNS filters");
                 let record = Record {
                     bandwidth: side.bandwidth as usize,
                     lastnz: side.lastnz,
@@ -283,15 +373,14 @@ impl Read {
                 answer.extend((tail as u64).to_be_bytes());
                 answer
             }
-            Some(Err(BandwidthIdxOutOfRange(bandwidth))) => refused(5, &[bandwidth]),
-            Some(Err(LastNonZeroTupleGreaterThanYLen(lastnz, ne))) => refused(6, &[lastnz, ne]),
-            Some(Err(PlcTriggerSns1OutOfRange(joint))) => refused(7, &[joint]),
-            Some(Err(PlcTriggerSns2OutOfRange(joint))) => refused(8, &[joint]),
-            Some(Err(BufferReaderError(BigEndianBitReaderReadUsizeNumBitsOutOfRange(n, b)))) => refused(9, &[n, b]),
-            Some(Err(BufferReaderError(BigEndianBitReaderReadBoolOutOfRange(b)))) => refused(9, &[1, b]),
-            Some(Err(other)) => panic!("the side information has no such refusal: {:?}", other),
-        };
-        (answer, tail - self.at.1)
+            Err(BandwidthIdxOutOfRange(bandwidth)) => refused(5, &[bandwidth]),
+            Err(LastNonZeroTupleGreaterThanYLen(lastnz, ne)) => refused(6, &[lastnz, ne]),
+            Err(PlcTriggerSns1OutOfRange(joint)) => refused(7, &[joint]),
+            Err(PlcTriggerSns2OutOfRange(joint)) => refused(8, &[joint]),
+            Err(BufferReaderError(BigEndianBitReaderReadUsizeNumBitsOutOfRange(n, b))) => refused(9, &[n, b]),
+            Err(BufferReaderError(BigEndianBitReaderReadBoolOutOfRange(b))) => refused(9, &[1, b]),
+            Err(other) => panic!("the side information has no such refusal: {:?}", other),
+        }
     }
 }
 
@@ -308,16 +397,40 @@ impl Write {
     }
 
     fn put(&self, out: &mut Records) {
-        put(out, 10, self.of, self.at, [&self.record.bytes(), &self.frame], &self.answer());
+        let case = in_case(self.of, self.at, [&self.record.bytes(), &self.frame]);
+        out.put_said(10, &case, self.panics(), || self.answer());
+    }
+
+    // The Rust panics where a field passes the frame's first byte; document 01 refuses the first that does.
+    fn panics(&self) -> Option<Vec<u8>> {
+        let mut tail = self.at.1;
+        for (width, _) in self.record.fields(self.of).into_iter().filter(|(width, _)| *width > 0) {
+            if tail + width > 8 * self.frame.len() {
+                return Some(refused(9, &[width, tail % 8]));
+            }
+            tail += width;
+        }
+        None
     }
 
     fn answer(&self) -> Vec<u8> {
         let (side, mut frame) = (self.record.side(self.of), self.frame.clone());
         let writer = writer_at(frame.len(), self.at);
-        match caught(|| door::side(self.of.ne(), writer, &side, &mut frame)) {
-            None => vec![PANICKED],
-            Some(writer) => written(&writer, &frame),
+        let writer = door::side(self.of.ne(), writer, &side, &mut frame);
+        if self.at.1 == 0 {
+            let bits = self.record.fields(self.of).iter().map(|(width, _)| width).sum();
+            let whole = self.encoded();
+            let is_same = (0..bits).all(|bit| bit_at(&whole, bit) == bit_at(&frame, bit));
+            hold(is_same, "`encode` writes other side information than its parts do");
         }
+        written(&writer, &frame)
+    }
+
+    // What `encode` itself makes of the record, with all lines 0, in a frame that has room for all of it.
+    fn encoded(&self) -> Vec<u8> {
+        let mut whole = vec![0xff; self.frame.len().max(LONG)];
+        door::encode(self.of.ne(), self.record.side(self.of), &vec![0; self.of.ne()], &mut whole);
+        whole
     }
 }
 
@@ -541,13 +654,14 @@ pub fn sample(out: &mut Records) {
     // by the place that the room ends at, and by width and bit index
     let (mut places, mut fields) = (OneOfEach::new(), OneOfEach::new());
     read_rooms(rng, SHORT, |record, case| {
-        let (answer, bits) = case.answer();
-        places.take(pick, (case.of, answer[0], bits, record.bandwidth >= 3), case)
+        let Walk { tail, refusal, panics, .. } = case.walk();
+        let number = refusal.map(|refusal| refusal[0]);
+        places.take(pick, (case.of, number, panics, tail - case.at.1, record.bandwidth >= 3), case)
     });
     read_rooms(rng, SHORT, |_, case| {
-        let (answer, bits) = case.answer();
-        if answer[0] != ACCEPTED {
-            fields.take(pick, (case.of, answer.get(8).copied(), (case.at.1 + bits) % 8), case)
+        let Walk { tail, refusal, panics, .. } = case.walk();
+        if let Some(refusal) = refusal {
+            fields.take(pick, (case.of, panics, refusal.get(8).copied(), tail % 8), case)
         }
     });
     places.cases().chain(fields.cases()).for_each(|case| case.put(out));

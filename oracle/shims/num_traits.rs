@@ -1,6 +1,24 @@
-// For the crate num_traits: what is called on a float literal, whose type is not fixed yet; the rest is std's own.
+// For the crate num_traits: what is called on a float literal, whose type is not fixed yet; the rest is std's own. The
+// power may be lent: the quantiser's gain is the one that the six files take, so that it can be any number.
+
+use std::cell::Cell;
+
+thread_local! {
+    static LENT: Cell<Option<f32>> = const { Cell::new(None) };
+}
+
+// What the call takes for every power.
+pub fn with_power<R>(power: f32, call: impl FnOnce() -> R) -> R {
+    LENT.with(|lent| lent.set(Some(power)));
+    let result = call();
+    LENT.with(|lent| lent.set(None));
+    result
+}
 
 pub mod real {
+    use super::LENT;
+    use std::cell::Cell;
+
     pub trait Real: Sized {
         fn min(self, other: Self) -> Self;
         fn max(self, other: Self) -> Self;
@@ -19,7 +37,10 @@ pub mod real {
                 }
 
                 fn powf(self, n: Self) -> Self {
-                    $float::powf(self, n)
+                    match LENT.with(Cell::get) {
+                        Some(power) => power as $float,
+                        None => $float::powf(self, n),
+                    }
                 }
             }
         )*};

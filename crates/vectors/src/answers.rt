@@ -21,7 +21,7 @@ pub(crate) fn answer(kind: u8, case: &[u8], out: &mut [u8]) -> usize
         9..=10 => side_cases::answer(kind, case, out),
         11 | 18 => table_cases::answer(kind, case, out),
         12..=13 => decoder_cases::answer(kind, case, out),
-        14..=15 => encoder_cases::answer(kind, case, out),
+        14..=15 | 19 => encoder_cases::answer(kind, case, out),
         16 => quantiser_cases::answer(case, out),
         17 => gain_cases::answer(case, out),
         _ => 0,
@@ -38,7 +38,7 @@ pub(crate) fn place(kind: u8) -> usize
         9..=10 => 2,
         11 => 3,
         12..=13 => 4,
-        14..=15 => 5,
+        14..=15 | 19 => 5,
         16..=18 => 6,
         _ => 7,
     }

@@ -46,15 +46,18 @@ pub(crate) fn answer(kind: u8, case: &[u8], out: &mut [u8]) -> usize
     let count = parts.words;
     let list = parts.list;
     let behind = parts.behind;
-    if kind == 14 {
-        run(&words[0..count], &case[list..behind], &case[behind..], out)
-    } else {
-        round_trip::answer(&words[0..count], &case[list..behind], &case[behind..], out)
+    let words = &words[0..count];
+    let sent = &case[list..behind];
+    let buf = &case[behind..];
+    match kind {
+        14 => run(words, sent, buf, 0, out),
+        15 => round_trip::answer(words, sent, buf, out),
+        _ => run(words, sent, buf, 1, out),
     }
 }
 
-// A run in the crate reading, into a buffer that holds `before`.
-fn run(words: &[u16], list: &[u8], before: &[u8], out: &mut [u8]) -> usize
+// A run in a reading, into a buffer that holds `before`.
+fn run(words: &[u16], list: &[u8], before: &[u8], reading: usize, out: &mut [u8]) -> usize
     requires { ⌜ 4096 ≤ length (now out) ⌝ }
     ensures { λ r. ⌜ r ≤ length (now (out .exit)) ⌝ }
 {
@@ -65,7 +68,7 @@ fn run(words: &[u16], list: &[u8], before: &[u8], out: &mut [u8]) -> usize
     let end = FRONT + len;
     let buf = &mut out[FRONT..end];
     record::copy(before, buf);
-    let sent = send(words, list, buf, 0);
+    let sent = send(words, list, buf, reading);
     if !sent.is_whole {
         return 0;
     }

@@ -1,4 +1,4 @@
-// Replays the original Rust's answers against this repository's code: records from standard input, a verdict last.
+// Replays the answers that are expected against this repository's code: records from standard input, a verdict last.
 mod agreement;
 mod answers;
 mod decoder_cases;
@@ -36,7 +36,7 @@ struct State {
     tally: Tally,
 }
 
-// One record: this code's answer beside the Rust's. The first that differs is kept for the report.
+// One record: this code's answer beside the one that is expected. The first that differs is kept for the report.
 fn replay(buf: &[u8], kept: &mut [u8], r: Record, tally: Tally) -> Tally
     requires { ⌜ Parts r (length (now buf)) ⌝ }
 {
@@ -50,9 +50,8 @@ fn replay(buf: &[u8], kept: &mut [u8], r: Record, tally: Tally) -> Tally
         return tally.malformed();
     }
     let place = answers::place(r.kind);
-    let theirs = &buf[answer..end];
-    if agreement::agrees(theirs, &ours[0..n]) {
-        return tally.agreed(place, agreement::panicked(theirs));
+    if agreement::agrees(&buf[answer..end], &ours[0..n]) {
+        return tally.counted(place);
     }
     let counted = tally.differed(place);
     if tally.differ == 0 {

@@ -26,29 +26,23 @@ pub(crate) fn report(kept: &[u8], tally: Tally) {
 
 fn modules(tally: Tally) {
     let cases = tally.cases;
-    let panics = tally.panics;
-    module(b"buffer_reader", cases[0], panics[0]);
-    module(b"buffer_writer", cases[1], panics[1]);
-    module(b"side_info", cases[2], panics[2]);
-    module(b"tables", cases[3], panics[3]);
-    module(b"range_decoder", cases[4], panics[4]);
-    module(b"range_encoder", cases[5], panics[5]);
-    module(b"spectral_quantization", cases[6], panics[6]);
+    module(b"buffer_reader", cases[0]);
+    module(b"buffer_writer", cases[1]);
+    module(b"side_info", cases[2]);
+    module(b"tables", cases[3]);
+    module(b"range_decoder", cases[4]);
+    module(b"range_encoder", cases[5]);
+    module(b"spectral_quantization", cases[6]);
 }
 
-fn module(name: &[u8], cases: u64, panics: u64) {
+fn module(name: &[u8], cases: u64) {
     if cases == 0 {
         return;
     }
     write_all(STDOUT_FILENO, name);
     write_all(STDOUT_FILENO, b": ");
     print_decimal(STDOUT_FILENO, cases);
-    write_all(STDOUT_FILENO, b" cases, ");
-    print_decimal(STDOUT_FILENO, panics);
-    write_all(
-        STDOUT_FILENO,
-        b" of them where the Rust panics and this refuses\n",
-    );
+    write_all(STDOUT_FILENO, b" cases\n");
 }
 
 fn first_difference(kept: &[u8], number: u64) {
@@ -77,7 +71,7 @@ fn parts(kept: &[u8], r: Record)
     let mut ours = [0u8; 8192];
     let n = answers::answer(r.kind, &kept[case..answer], &mut ours);
     line(b"case ", &kept[case..answer]);
-    line(b"rust ", &kept[answer..end]);
+    line(b"want ", &kept[answer..end]);
     line(b"here ", &ours[0..n]);
 }
 

@@ -3,7 +3,6 @@ ghost use Prim.Native.Nat.{_<_};
 
 pub(crate) struct Tally {
     pub(crate) cases: [u64; 8],
-    pub(crate) panics: [u64; 8],
     pub(crate) records: u64,
     pub(crate) differ: u64,
     pub(crate) first: u64,
@@ -19,7 +18,6 @@ impl Tally {
     pub(crate) fn new() -> Self {
         Self {
             cases: [0; 8],
-            panics: [0; 8],
             records: 0,
             differ: 0,
             first: 0,
@@ -27,7 +25,7 @@ impl Tally {
         }
     }
 
-    fn counted(self, place: usize) -> Self
+    pub(crate) fn counted(self, place: usize) -> Self
         requires { ⌜ place < 8 ⌝ }
     {
         let mut all = self;
@@ -35,18 +33,6 @@ impl Tally {
         cases[place] = more(cases[place]);
         all.cases = cases;
         all.records = more(self.records);
-        all
-    }
-
-    pub(crate) fn agreed(self, place: usize, is_panic: bool) -> Self
-        requires { ⌜ place < 8 ⌝ }
-    {
-        let mut all = self.counted(place);
-        if is_panic {
-            let mut panics = all.panics;
-            panics[place] = more(panics[place]);
-            all.panics = panics;
-        }
         all
     }
 
