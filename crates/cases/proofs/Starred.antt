@@ -10,8 +10,9 @@ use Rattle.side_info.specs.Layout.{putFields}
 use Rattle.side_info.specs.Reader.{leastWidth}
 use Rattle.common.specs.Last.{lastBelow, floorLog2}
 use Rattle.range_decoder.specs.Decoder.{owner}
-use Rattle.cases.specs.Starred.{Case, starred}
+use Rattle.residual_data.specs.Sums.{weighted}
+use Rattle.cases.specs.Starred.{Case, oddLines, starred}
 
 pub all-as-stated : map (λ (c : Case). c .defined) starred ≡ map (λ (c : Case). c .stated) starred
-unfolding allAtLeast total tabulate putField putFields field leastWidth lastBelow floorLog2 owner
+unfolding allAtLeast total tabulate putField putFields field leastWidth lastBelow floorLog2 owner weighted oddLines
 all-as-stated = refl

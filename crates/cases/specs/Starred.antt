@@ -1,8 +1,9 @@
--- Document 01, "Checked by hand", the starred cases as far as the modules define them: a row is what the definitions give,
+-- Document 01, "Checked by hand", the starred cases: a row is what the definitions give,
 -- then what document 01 says.
-use Prim.Native.Nat.{ℕ, _+_, _*_}
+use Prim.Native.Nat.{ℕ, zero, suc, _+_, _*_}
 use mathlib.Core.List.{List, [], _∷_}
 use lib.ListN.{take, replicate}
+use lib.IntN.{ℤ, pos}
 use Rattle.common.specs.Reply.{Answer, accepted, refused}
 use Rattle.common.specs.Flat.{flatRows}
 use Rattle.buffer_reader.specs.declared.Cursor.{Cursor}
@@ -12,6 +13,7 @@ use Rattle.side_info.specs.declared.SideInfo.{SideInfo}
 use Rattle.range_decoder.specs.Decoder.{Decoded, decodeSymbol}
 use Rattle.range_encoder.specs.Finish.{Ending, ending}
 use Rattle.range_encoder.specs.declared.EncoderState.{EncoderState}
+use Rattle.residual_data.specs.Sums.{seed}
 
 pub record Case : Type 0 where
   pub defined : List ℕ
@@ -53,6 +55,11 @@ indices s = s .sns .«idx_a» ∷ s .sns .«idx_b» ∷ s .sns .«ls_indb» ∷ 
 abbrev last : SideInfo → List ℕ
 last s = s .lastnz ∷ []
 
+-- so many pairs of lines, 0 and 81919
+unfoldable pub oddLines : ℕ → List ℤ
+oddLines zero = []
+oddLines (suc n) = pos 0 ∷ pos 81919 ∷ oddLines n
+
 abbrev pub starred : List Case
 starred =
     -- low 0: symbol 0, range 1048512, no byte (low stays 0, and the head)
@@ -79,4 +86,6 @@ starred =
     record { defined = read last (holding 39 0 0); stated = 0 ∷ 80 ∷ [] } ∷
     -- v 40: 6 (82, 80)
     record { defined = read last (holding 40 0 0); stated = 6 ∷ 82 ∷ 80 ∷ [] } ∷
+    -- sum rule with the 200 odd lines of 400 at 81919: seed 25536
+    record { defined = seed (oddLines 200) ∷ []; stated = 25536 ∷ [] } ∷
     []

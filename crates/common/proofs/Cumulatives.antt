@@ -11,7 +11,7 @@ use borrow.Author.Tests.{eqb-true, leb-true}
 use lib.Dec.{leb, eqb}
 use lib.ListN.{length, getD, take, drop}
 use lib.Seq.{take-suc, take-all, drop-drop}
-use Rattle.common.specs.Tables.{total, allAtLeast, rowPasses, rowsPass, cumulative}
+use Rattle.common.specs.Tables.{total, allAtLeast, rowPasses, rowsPass, cumulative, rowAt}
 use Rattle.common.proofs.Bools.{and-left, and-right}
 
 pub total-append : (xs ys : List ℕ) → total (xs ++ ys) ≡ total xs + total ys
@@ -104,7 +104,7 @@ module _ (row : List ℕ) (passed : rowPasses row ≡ true) where
   row-filled = filled row row-total
 
 -- the r-th of the rows of a part that passes
-pub row-passed : (rows width r : ℕ) (xs : List ℕ) → rowsPass rows width xs ≡ true → r < rows → rowPasses (take width (drop (r * width) xs)) ≡ true
+pub row-passed : (rows width r : ℕ) (xs : List ℕ) → rowsPass rows width xs ≡ true → r < rows → rowPasses (rowAt width r xs) ≡ true
 unfolding rowsPass
 row-passed zero width r xs e h = absurd (omega arith)
 row-passed (suc n) width zero xs e h =

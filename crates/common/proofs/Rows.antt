@@ -66,7 +66,7 @@ rows-turn zero width xs h = absurd (omega arith)
 rows-turn (suc n) width xs h = let e : suc n - 1 ≡ n = omega arith in rw e refl
 
 -- the slice of the next row, as the code cuts it
-next-row : (at width : ℕ) (xs : List ℕ) → take (at + width - at) (drop at xs) ≡ take width (drop at xs)
+pub next-row : (at width : ℕ) (xs : List ℕ) → take (at + width - at) (drop at xs) ≡ take width (drop at xs)
 next-row at width xs = ap (λ n. take n (drop at xs)) (add-sub-cancel-left at width)
 
 module _ (left width at : ℕ) (xs : List ℕ) (h : 0 < left) (passed : Bool) (judged : passed ≡ rowPasses (take (at + width - at) (drop at xs))) where

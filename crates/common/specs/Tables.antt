@@ -54,3 +54,7 @@ tablesPass t =
 -- "cumulatives are the running sums from 0": what stands before place k
 abbrev pub cumulative : List ℕ → ℕ → ℕ
 cumulative row k = total (take k row)
+
+-- the k-th of the rows of a width that stand behind one another in a part
+abbrev pub rowAt : ℕ → ℕ → List ℕ → List ℕ
+rowAt width k part = take width (drop (k * width) part)

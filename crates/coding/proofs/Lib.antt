@@ -1,0 +1,4 @@
+pub mod Codings
+pub mod Keeps
+pub mod Owns
+pub mod Unique

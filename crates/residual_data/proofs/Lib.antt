@@ -1,0 +1,9 @@
+pub mod Lines
+pub mod Rooms
+pub mod Residuals
+pub mod Lates
+pub mod Spares
+pub mod Limits
+pub mod Turns
+pub mod Readings
+pub mod Seeds

@@ -1,0 +1,14 @@
+-- `inner::lesser` meets its contract: either answer of the test is the smaller of the two.
+-- Assumes nothing.
+use native.Mathlib.Omega.{arith}
+use Rattle.residual_data.proofs.inner.lesser.Statement.{statement}
+use Rattle.residual_data.proofs.inner.lesser.Tie as tie
+
+returns : tie.Need-returns
+returns c = omega arith
+
+returns-2 : tie.Need-returns-2
+returns-2 c = omega arith
+
+pub lesser-spec : {M : Type 1} → statement M
+lesser-spec = tie.close (tie.spec returns returns-2)

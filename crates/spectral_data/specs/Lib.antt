@@ -1,0 +1,2 @@
+pub mod Spectral
+pub mod Private

@@ -1,0 +1,2 @@
+// The spectral lines of a frame, pair by pair.
+pub mod inner;

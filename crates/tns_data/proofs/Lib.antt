@@ -1,0 +1,4 @@
+pub mod Within
+pub mod Turns
+pub mod Filters
+pub mod Depends

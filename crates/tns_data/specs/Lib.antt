@@ -1,0 +1,2 @@
+pub mod Tns
+pub mod Private

@@ -1,0 +1,2 @@
+// The TNS data of a frame: two orders and sixteen indices.
+pub mod inner;
