@@ -9,11 +9,11 @@ use borrow.Author.Tests.{le-ltb}
 use lib.Dec.{leb, ltb}
 use lib.ListN.{length}
 use Rattle.common.specs.Reply.{Reply, Answer, accepted, refused, andThen, lowBeyondLimit, headPastEnd, noTailRoom}
-use Rattle.buffer_reader.specs.Reads.{takeByte, takeBit, bitBeyond}
+use Rattle.buffer_reader.specs.Reads.{takeByte, takeThree, takeBit, bitBeyond}
 use Rattle.buffer_reader.specs.Steps.{Reading, next, found}
 use Rattle.buffer_reader.specs.declared.Cursor.{Cursor}
 use Rattle.buffer_reader.proofs.Roomy.{Ends, ends-given, ends-then, ends-refused}
-use Rattle.range_decoder.specs.Decoder.{unitOf, owner, narrowed, appendByte, renormalised, symbolStep}
+use Rattle.range_decoder.specs.Decoder.{unitOf, owner, narrowed, appendByte, renormalised, startDecoder, symbolStep}
 use Rattle.range_decoder.specs.declared.DecoderState.{DecoderState}
 use Rattle.coding.specs.Private.{InStep}
 
@@ -36,6 +36,14 @@ module _ (f : List ℕ) (short : length f ≤ 65535) where
   bit-stepped c =
       rw (le-ltb 65535 (length f) short)
       (ends-given InStep (λ x. Unit {0}) (bitBeyond (length f) c) (noTailRoom 1 (c .tail)) _ refl (λ e. tt))
+
+  pub start-stepped : (c : Cursor) → Stepped (startDecoder f c)
+  start-stepped c = stepped-then (takeThree f c) _ three (λ x. tt)
+    where
+      three : Stepped (takeThree f c)
+      three =
+          rw (le-ltb 65535 (length f) short)
+          (ends-given InStep (λ x. Unit {0}) (leb (length f) (c .head + 2)) (headPastEnd (c .head)) _ refl (λ e. tt))
 
   byte-stepped : (c : Cursor) → Stepped (takeByte f c)
   byte-stepped c =

@@ -5,16 +5,22 @@ ghost use Prim.Native.Nat.{_+_, _*_, _≤_};
 ghost use lib.ListN.{length};
 ghost use Rattle.common.specs.Tables.{rowPasses, rowAt};
 ghost use Rattle.buffer_reader.specs.Reads.{replyOf as bufferReply};
-ghost use Rattle.range_decoder.specs.Decoder.{rangePasses, replyOf as codecReply};
+ghost use Rattle.range_decoder.specs.Decoder.{rangePasses, startDecoder, replyOf as codecReply};
 ghost use Rattle.coding.specs.Coding.{refusalOf, symbolBy, bitNext};
-ghost use Rattle.coding.specs.Private.{InStep, symbolMetOf, bitMetOf};
+ghost use Rattle.coding.specs.Private.{InStep, startMetOf, symbolMetOf, bitMetOf};
 use crate::Refusal;
 use buffer_reader::BitRead;
 use buffer_reader::BufferError;
 use buffer_reader::Cursor;
 use range_decoder::CodecError;
 use range_decoder::DecoderState;
+use range_decoder::Started;
 use range_decoder::SymbolRead;
+
+pub enum StartMet {
+    At(DecoderState, Cursor),
+    Refused(Refusal),
+}
 
 pub enum SymbolMet {
     Symbol(usize, DecoderState, Cursor),
@@ -27,7 +33,7 @@ pub enum BitMet {
 }
 
 // The buffer's refusals that a step can meet: the other two cannot come here.
-fn of_buffer(e: BufferError) -> Refusal
+pub fn of_buffer(e: BufferError) -> Refusal
     requires { ⌜ InStep (bufferReply e) ⌝ }
     ensures { λ r. ⌜ refusalOf r ≡ bufferReply e ⌝ }
 {
@@ -48,6 +54,17 @@ fn of_codec(e: CodecError) -> Refusal
         CodecError::Buffer(b) => of_buffer(b),
         CodecError::OutsideLimits => Refusal::PastEnd(0),
         CodecError::RowFails => Refusal::PastEnd(0),
+    }
+}
+
+// The decoder's start.
+pub fn start(buf: &[u8], at: Cursor) -> StartMet
+    requires { ⌜ length (now buf) ≤ 65535 ⌝ }
+    ensures { λ r. ⌜ startMetOf r ≡ startDecoder (now (buf .entry)) at ⌝ }
+{
+    match range_decoder::ac_dec_init(buf, at) {
+        Started::At(state, next) => StartMet::At(state, next),
+        Started::Refused(e) => StartMet::Refused(of_codec(e)),
     }
 }
 

@@ -157,7 +157,7 @@ fn level_place(reading: usize, p: usize) -> usize
 }
 
 // Whether pair p counts as escaped.
-fn escaped(reading: usize, levels: &[usize], pairs: usize, p: usize) -> bool
+fn escaped(reading: usize, levels: &[u8], pairs: usize, p: usize) -> bool
     requires { ⌜ (p < pairs) × (pairs ≤ length (now levels)) × (pairs ≤ 200) ⌝ }
     ensures { λ r. ⌜ r ≡ escapedBy reading (take pairs (now (levels .entry))) p ⌝ }
 {
@@ -174,7 +174,7 @@ pub fn late_lines(
     tail: usize,
     room: usize,
     reading: usize,
-    levels: &[usize],
+    levels: &[u8],
     pairs: usize,
     lines: &mut [i32],
 ) -> usize

@@ -22,8 +22,9 @@ use Rattle.side_info.proofs.Answers.{frame-ranges}
 use Rattle.side_info.proofs.Widths.{lastnz-range, part-listed, joint-listed}
 use Rattle.side_info.proofs.Lengths.{bandwidth-most, shape-sum}
 
--- a refusal by a check of the side information's own: a number up to 8, in no step
+-- a refusal by a check of the side information's own: a number from 1 up to 8, in no step
 pub record Own (r : Reply) : Type 0 where
+  pub some : 1 ≤ r .number
   pub low : r .number ≤ 8
   pub place : r .step ≡ nowhere
 
@@ -41,7 +42,7 @@ bandwidth-roomy fs h =
     (roomy-present Own (ltb 0 (bandwidthBits fs)) 3 (sideField (bandwidthBits fs))
     (λ e. roomy-more Own (bandwidthBits fs) 3 (sideField (bandwidthBits fs)) most
     (bits-roomy (bandwidthBits fs) (listed-low (bandwidthBits fs) (ltb-true 0 (bandwidthBits fs) e) (omega arith)))))
-    (λ b. roomy-refusing Own (ltb fs b) (bandwidthTooLarge b) 0 (found b) (record { low = omega arith; place = refl }) (roomy-found Own b))
+    (λ b. roomy-refusing Own (ltb fs b) (bandwidthTooLarge b) 0 (found b) (record { some = omega arith; low = omega arith; place = refl }) (roomy-found Own b))
 
 lastnz-roomy : (ne : ℕ) → 60 ≤ ne → ne ≤ 400 → Roomy Own 8 (readLastnz ne)
 lastnz-roomy ne l m =
@@ -50,7 +51,7 @@ lastnz-roomy ne l m =
     (roomy-more Own (lastnzBits ne) 8 (sideField (lastnzBits ne)) (w .1)
     (bits-roomy (lastnzBits ne) (listed-low (lastnzBits ne) (omega arith) (omega arith))))
     (λ v. roomy-refusing Own (ltb ne (2 * (v + 1))) (lastnzTooLarge (2 * (v + 1)) ne) 0 (found (2 * (v + 1)))
-    (record { low = omega arith; place = refl })
+    (record { some = omega arith; low = omega arith; place = refl })
     (roomy-found Own (2 * (v + 1))))
 
 joint-roomy : (msb : ℕ) → Roomy Own (jointBits msb) (readJoint msb)
@@ -58,8 +59,8 @@ joint-roomy msb =
     roomy-more Own (jointBits msb + 0) (jointBits msb) (readJoint msb) (omega arith)
     (roomy-next Own (jointBits msb) 0 (sideField (jointBits msb)) _ (bits-roomy (jointBits msb) (joint-listed msb))
     (λ j. roomy-if Own (eqb msb 0) 0 _ _
-    (roomy-refusing Own (leb 33460056 j) (jointTooLarge25 j) 0 (found j) (record { low = omega arith; place = refl }) (roomy-found Own j))
-    (roomy-refusing Own (leb 16708096 j) (jointTooLarge24 j) 0 (found j) (record { low = omega arith; place = refl }) (roomy-found Own j))))
+    (roomy-refusing Own (leb 33460056 j) (jointTooLarge25 j) 0 (found j) (record { some = omega arith; low = omega arith; place = refl }) (roomy-found Own j))
+    (roomy-refusing Own (leb 16708096 j) (jointTooLarge24 j) 0 (found j) (record { some = omega arith; low = omega arith; place = refl }) (roomy-found Own j))))
 
 -- 3 bits of bandwidth, 8 of lastnz, 63 of the rest at most: the gain's part and J have 26 together, whichever msb is
 pub side-roomy : (fs ne : ℕ) → fs ≤ 4 → 60 ≤ ne → ne ≤ 400 → Roomy Own 74 (readAll fs ne)
@@ -89,9 +90,12 @@ module _ (k : Configuration) (f : List ℕ) where
   lines-end = by (configurationPasses k) (lengthPasses (length f)) refl refl
     where
       by : (p q : Bool) → configurationPasses k ≡ p → lengthPasses (length f) ≡ q → Ends Own (λ n. frameLines k (length f) ≡ accepted n) (frameLines k (length f))
-      by false q e l = rw e (record { low = omega arith; place = refl })
-      by true false e l = rw (e, l) (record { low = omega arith; place = refl })
+      by false q e l = rw e (record { some = omega arith; low = omega arith; place = refl })
+      by true false e l = rw (e, l) (record { some = omega arith; low = omega arith; place = refl })
       by true true e l = let whole = frame-passed k (length f) e l in ends-accepted Own (λ n. frameLines k (length f) ≡ accepted n) (frameLines k (length f)) whole whole
+
+  pub lines-refusal : {r : Reply} → frameLines k (length f) ≡ refused r → Own r
+  lines-refusal e = ends-refused Own (λ n. frameLines k (length f) ≡ accepted n) (frameLines k (length f)) lines-end e
 
   -- the room is asked for only behind the check of the frame's length
   side-ends : (c : Cursor) → (20 ≤ length f → Room f c 74) → Ends Own (λ r. Ahead c 74 (r .1)) (readSide k f c)

@@ -1,5 +1,6 @@
 // The side information: its record, read from the tail of a frame and written there.
 pub mod fields;
+pub mod inner;
 mod limits;
 pub mod reader;
 pub mod writer;

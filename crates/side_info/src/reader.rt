@@ -45,7 +45,7 @@ pub fn read(buf: &[u8], at: Cursor, configuration: Configuration) -> SideRead
     }
 }
 
-fn read_all(buf: &[u8], at: Cursor, fs_ind: usize, ne: usize) -> SideRead
+pub(crate) fn read_all(buf: &[u8], at: Cursor, fs_ind: usize, ne: usize) -> SideRead
     requires { ⌜ («fs_ind» ≤ 4) × (60 ≤ ne) × (ne ≤ 400) ⌝ }
     ensures { λ r. ⌜ sideOf r ≡ readAll «fs_ind» ne (now (buf .entry)) at ⌝ }
 {

@@ -10,9 +10,6 @@ use Rattle.residual_data.proofs.inner.escaped.Tie as tie
 level-place-requires : tie.Need-level-place-requires
 level-place-requires c κs = search needs
 
-mul-result : tie.Need-mul-result
-mul-result c = search needs
-
 shared-slice-read-result : tie.Need-shared-slice-read-result
 shared-slice-read-result c = search needs
 
@@ -28,4 +25,4 @@ returns-2 c =
 
 pub escaped-spec : {M : Type 1} → statement M
 escaped-spec =
-    tie.close (tie.spec level-place-requires mul-result shared-slice-read-result returns returns-2)
+    tie.close (tie.spec level-place-requires shared-slice-read-result returns returns-2)

@@ -1,0 +1,9 @@
+pub mod Places
+pub mod Magnitudes
+pub mod Data
+pub mod Shown
+pub mod Copies
+pub mod Coded
+pub mod Whole
+pub mod Unique
+pub mod Theorems

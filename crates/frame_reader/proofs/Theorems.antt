@@ -1,0 +1,233 @@
+-- What holds of every frame, over its definition: where a refusal stands, that used and spare are N, how long the residual list is,
+-- and that outside least-bit mode the readings answer alike. By what the stages say of themselves. Assumes nothing.
+use Prim.Native.Nat.{ℕ, _+_, _-_, _*_, _≤_, _<_, min}
+use mathlib.Core.Path.{_≡_, refl, sym, ap, subst, _∙_}
+use mathlib.Core.Bool.{Bool, true, false, cond, not, _&&_, true≢false}
+use mathlib.Core.List.{List, [], _∷_}
+use native.Mathlib.Omega.{arith}
+use borrow.Author.Tests.{le-leb, ltb-false, not-false}
+use lib.Dec.{leb, ltb, eqb}
+use lib.ListN.{length, getD}
+use lib.IntN.{pos, natAbs}
+use Rattle.common.specs.Last.{floorLog2}
+use Rattle.common.specs.Reply.{nowhere, Reply, Answer, accepted, refused, given, andThen, tablesFail, wrongCount, outsideLimits, wrongLength, residualNegative}
+use Rattle.common.specs.Configuration.{configurationPasses, lengthPasses, frameLines}
+use Rattle.common.specs.Configuration.{ne as lines·ne}
+use Rattle.common.specs.Tables.{Tables, tablesPass}
+use Rattle.common.specs.declared.configuration.Configuration.{Configuration}
+use Rattle.common.proofs.Replies.{no-refusal, accepted-same, then-split, given-split}
+use Rattle.buffer_reader.specs.declared.Cursor.{Cursor}
+use Rattle.buffer_reader.proofs.Roomy.{Ends, ends-given, ends-then, ends-refused}
+use Rattle.side_info.specs.Reader.{readAll}
+use Rattle.side_info.specs.declared.SideInfo.{SideInfo}
+use Rattle.side_info.proofs.Start.{lines-refusal}
+use Rattle.spectral_data.specs.Spectral.{linesOf, levelsOf}
+use Rattle.spectral_data.proofs.Bounds.{All, Sized}
+use Rattle.spectral_data.proofs.Lines.{even-most, odd-most, odd-few}
+use Rattle.residual_data.specs.Residual.{usedBits, available, nonzero, residualList, escapedBy, lateFrom}
+use Rattle.residual_data.proofs.Rooms.{log-most}
+use Rattle.residual_data.proofs.Residuals.{residual-length}
+use Rattle.residual_data.proofs.Lates.{late-spends, late-room}
+use Rattle.frame_reader.specs.Frame.{Data, Frame, filledTo, readData, withResidual, withLate, finished, readFrame}
+use Rattle.frame_reader.specs.Refusals.{InFrame}
+use Rattle.frame_reader.specs.Spare.{used, spare}
+use Rattle.frame_reader.specs.Stated.{Listed, Magnitudes, OutsideLeastBit}
+use Rattle.frame_reader.specs.Private.{readOn}
+use Rattle.frame_reader.proofs.Data.{Behind, own-in-frame, data-ends, data-behind}
+use Rattle.frame_reader.proofs.Magnitudes.{EvenPair, late-each, bounds, even-late, odd-late, odd-few-late, filled-size}
+use Rattle.frame_reader.proofs.Whole.{judged}
+
+-- ---- refusals
+
+module _ (k : Configuration) (t : Tables) (count : ℕ) (f : List ℕ) where
+  abbrev origin : Cursor
+  origin = record { head = 0; tail = 0 }
+
+  abbrev Read : Frame → Type 0
+  Read fr = Unit {0}
+
+  in-no-step : (n : ℕ) (values : List ℕ) → 1 ≤ n → n ≤ 8 → InFrame (record { number = n; values = values; step = nowhere })
+  in-no-step n values least most = record { least = least; most = omega arith; place = rw (le-leb n 8 most) refl }
+
+  finished-ends : (ne : ℕ) (d : Data) (c : Cursor) → Ends InFrame Read (finished (k .reading) ne f d c)
+  finished-ends ne d c =
+      ends-then InFrame Read (λ room. Unit {0}) (available (8 * length f) c (d .range)) _
+      (ends-given InFrame (λ room. Unit {0}) (ltb (8 * length f) (usedBits c (d .range))) residualNegative _
+      (record { least = omega arith; most = omega arith; place = refl })
+      (λ e. tt))
+      (λ room e u. tt)
+
+  frame-ends : Ends InFrame Read (readFrame k t count f)
+  frame-ends = by (frameLines k (length f)) refl
+    where
+      by : (a : Answer ℕ) → frameLines k (length f) ≡ a →
+          Ends InFrame Read (andThen a (λ n. given (not (tablesPass t)) tablesFail (given (ltb count n) (wrongCount count) (readOn k t n f))))
+      by (refused r) e = own-in-frame r (lines-refusal k f e)
+      by (accepted n) e =
+          ends-given InFrame Read (not (tablesPass t)) tablesFail _ (in-no-step 3 [] (omega arith) (omega arith))
+          (λ g. ends-given InFrame Read (ltb count n) (wrongCount count) _ (in-no-step 4 (count ∷ []) (omega arith) (omega arith))
+          (λ h. ends-then InFrame Read (Behind (k .«fs_ind») n f) (readData k t (8 * length f) n f origin) _
+          (data-ends k n f (t .lookup) (t .frequencies) (t .orders) (t .coefficients) (judged k t count f n e (not-false (tablesPass t) g)))
+          (λ x q b. finished-ends n (x .0) (x .1))))
+
+  -- 1: in a whole frame 9 stands in `bit` alone, 10 and 11 in `order`, `coef` or `symbol` alone, any other in no step, and all are 1 to 12
+  pub frame-refusal : {r : Reply} → readFrame k t count f ≡ refused r → InFrame r
+  frame-refusal e = ends-refused InFrame Read (readFrame k t count f) frame-ends e
+
+-- ---- accepted frames
+
+-- the frame by its mode
+abbrev byMode : ℕ → ℕ → List ℕ → Data → Cursor → ℕ → Bool → Frame
+byMode reading ne f d c room lsb = cond lsb (withLate reading ne f d c room) (withResidual ne f d c room)
+
+-- what stands behind an accepted frame
+record Parts (k : Configuration) (t : Tables) (f : List ℕ) (fr : Frame) : Type 0 where
+  ne : ℕ
+  read : Data
+  cursor : Cursor
+  room : ℕ
+  sized : All Sized (read .pairs)
+  even : eqb (read .side .lsb) 1 ≡ true → All EvenPair (read .pairs)
+  least : 0x10000 ≤ read .range
+  most : read .range ≤ 0xFFFFFF
+  fits : usedBits cursor (read .range) ≤ 8 * length f
+  left : 8 * length f - usedBits cursor (read .range) ≡ room
+  same : byMode (k .reading) ne f read cursor room (eqb (read .side .lsb) 1) ≡ fr
+
+module _ (k : Configuration) (t : Tables) (count : ℕ) (f : List ℕ) (fr : Frame) (e : readFrame k t count f ≡ accepted fr) where
+  frame-parts : Parts k t f fr
+  frame-parts =
+      let p = then-split (frameLines k (length f)) (λ n. given (not (tablesPass t)) tablesFail (given (ltb count n) (wrongCount count) (readOn k t n f))) e in
+      let n = p .0 in
+      let q = given-split (not (tablesPass t)) tablesFail (given (ltb count n) (wrongCount count) (readOn k t n f)) (p .2) in
+      let r = given-split (ltb count n) (wrongCount count) (readOn k t n f) (q .1) in
+      let s = then-split (readData k t (8 * length f) n f (record { head = 0; tail = 0 })) (λ x. finished (k .reading) n f (x .0) (x .1)) (r .1) in
+      let d = s .0 .0 in
+      let c = s .0 .1 in
+      let u = then-split (available (8 * length f) c (d .range)) (λ room. accepted (byMode (k .reading) n f d c room (eqb (d .side .lsb) 1))) (s .2) in
+      let g = given-split (ltb (8 * length f) (usedBits c (d .range))) residualNegative (accepted (8 * length f - usedBits c (d .range))) (u .1) in
+      let b = data-behind k n f (t .lookup) (t .frequencies) (t .orders) (t .coefficients) (judged k t count f n (p .1) (not-false (tablesPass t) (q .0))) (s .1) in
+      record {
+        ne = n;
+        read = d;
+        cursor = c;
+        room = u .0;
+        sized = b .sized;
+        even = b .even;
+        least = b .least;
+        most = b .most;
+        fits = ltb-false (8 * length f) (usedBits c (d .range)) (g .0);
+        left = accepted-same (g .1);
+        same = accepted-same (u .2);
+      }
+
+  abbrev P : Parts k t f fr
+  P = frame-parts
+
+  log : floorLog2 (P .read .range) ≤ 23
+  log = log-most (P .read .range) (P .least) (P .most)
+
+  -- 2: used and spare are N exactly
+  used-most : used fr ≤ 8 * length f
+  used-most = subst (λ x. used x ≤ 8 * length f) (P .same) (by (eqb (P .read .side .lsb) 1))
+    where
+      by : (lsb : Bool) → used (byMode (k .reading) (P .ne) f (P .read) (P .cursor) (P .room) lsb) ≤ 8 * length f
+      by true =
+          let escaped = escapedBy (k .reading) (levelsOf (P .read .pairs)) in
+          let spends = late-spends f escaped 0 (linesOf (P .read .pairs)) (P .cursor .tail) (P .room) in
+          omega (arith, spends, log, P .fits, P .left)
+      by false =
+          let size = residual-length f (P .cursor .tail) (P .room) (filledTo (P .ne) (linesOf (P .read .pairs))) in
+          omega (arith, size, log, P .fits, P .left)
+
+  pub used-and-spare : used fr + spare (8 * length f) fr ≡ 8 * length f
+  used-and-spare = omega (arith, used-most)
+
+  -- 3: in least-bit mode there is no residual list; outside it the list has as many bits as the smaller of the room and the nonzero
+  -- lines, the room being what is spare behind the list and the list itself
+  pub residual-listed : Listed (8 * length f) fr
+  residual-listed = subst (Listed (8 * length f)) (P .same) (by (eqb (P .read .side .lsb) 1) refl)
+    where
+      by : (lsb : Bool) → eqb (P .read .side .lsb) 1 ≡ lsb → Listed (8 * length f) (byMode (k .reading) (P .ne) f (P .read) (P .cursor) (P .room) lsb)
+      by true is = record { none = λ h. refl; list = λ h. absurd (true≢false (sym is ∙ h)) }
+      by false is =
+          let lines = filledTo (P .ne) (linesOf (P .read .pairs)) in
+          let bits = residualList f (P .cursor .tail) (P .room) lines in
+          let size : length bits ≡ min (P .room) (nonzero lines) = residual-length f (P .cursor .tail) (P .room) lines in
+          let whole : P .room ≡ spare (8 * length f) (withResidual (P .ne) f (P .read) (P .cursor) (P .room)) + length bits = omega (arith, size, log, P .fits, P .left) in
+          record { none = λ h. absurd (true≢false (sym h ∙ is)); list = λ h. size ∙ ap (λ n. min n (nonzero lines)) whole }
+
+  -- 4: even lines are at most 32,767 and odd ones at most 81,919, in both modes; odd ones at most 32,767 behind fewer than fourteen
+  -- escapes
+  pub lines-within : Magnitudes fr
+  lines-within = subst Magnitudes (P .same) (by (eqb (P .read .side .lsb) 1) refl)
+    where
+      by : (lsb : Bool) → eqb (P .read .side .lsb) 1 ≡ lsb → Magnitudes (byMode (k .reading) (P .ne) f (P .read) (P .cursor) (P .room) lsb)
+      by true is =
+          let xs = P .read .pairs in
+          let all = bounds xs (P .sized) (P .even is) in
+          let late = lateFrom f (escapedBy (k .reading) (levelsOf xs)) 0 (linesOf xs) (P .cursor .tail) (P .room) in
+          let each = late-each f (escapedBy (k .reading) (levelsOf xs)) 0 (linesOf xs) (P .cursor .tail) (P .room) in
+          record {
+            evens = λ i. omega (arith, filled-size (late .lines) (P .ne - length (late .lines)) (2 * i), each (2 * i), even-late xs all i);
+            odds = λ i. omega (arith, filled-size (late .lines) (P .ne - length (late .lines)) (2 * i + 1), each (2 * i + 1), odd-late xs all i);
+            few = λ i h. omega (arith, filled-size (late .lines) (P .ne - length (late .lines)) (2 * i + 1), each (2 * i + 1), odd-few-late xs all i h);
+          }
+      by false is =
+          let xs = P .read .pairs in
+          record {
+            evens = λ i. omega (arith, filled-size (linesOf xs) (P .ne - length (linesOf xs)) (2 * i), even-most xs (P .sized) i);
+            odds = λ i. omega (arith, filled-size (linesOf xs) (P .ne - length (linesOf xs)) (2 * i + 1), odd-most xs (P .sized) i);
+            few = λ i h. omega (arith, filled-size (linesOf xs) (P .ne - length (linesOf xs)) (2 * i + 1), odd-few xs (P .sized) i h);
+          }
+
+-- ---- the two readings
+
+-- two chains that end alike behind their first part end alike
+then-alike : {A B : Type 0} (a : Answer A) (go on : A → Answer B) (z : Answer B) → ((x : A) → go x ≡ z → on x ≡ z) → andThen a go ≡ z → andThen a on ≡ z
+then-alike (accepted x) go on z h e = h x e
+then-alike (refused q) go on z h e = e
+
+given-alike : {A : Type 0} (t : Bool) (q : Reply) (a b z : Answer A) → (a ≡ z → b ≡ z) → given t q a ≡ z → given t q b ≡ z
+given-alike true q a b z h e = e
+given-alike false q a b z h e = h e
+
+mode-side : (reading ne : ℕ) (f : List ℕ) (d : Data) (c : Cursor) (room : ℕ) (lsb : Bool) → d .side ≡ byMode reading ne f d c room lsb .side
+mode-side reading ne f d c room true = refl
+mode-side reading ne f d c room false = refl
+
+abbrev by-reading : Configuration → ℕ → Configuration
+by-reading k reading = record { «fs_ind» = k .«fs_ind»; duration = k .duration; reading = reading }
+
+module _ (k : Configuration) (r : ℕ) (one : leb (k .reading) 1 ≡ true) (two : leb r 1 ≡ true) (t : Tables) (count : ℕ) (f : List ℕ) where
+  abbrev other : Configuration
+  other = by-reading k r
+
+  lines-alike : frameLines k (length f) ≡ frameLines other (length f)
+  lines-alike = rw (one, two) refl
+
+  abbrev from : ℕ → ℕ → Answer Frame
+  from reading n =
+      given (not (tablesPass t)) tablesFail
+      (given (ltb count n) (wrongCount count)
+      (andThen (readData k t (8 * length f) n f (record { head = 0; tail = 0 })) (λ x. finished reading n f (x .0) (x .1))))
+
+  module _ (n : ℕ) (d : Data) (c : Cursor) (room : ℕ) where
+    mode-alike : (z : Answer Frame) → OutsideLeastBit z → accepted (byMode (k .reading) n f d c room (eqb (d .side .lsb) 1)) ≡ z → accepted (byMode r n f d c room (eqb (d .side .lsb) 1)) ≡ z
+    mode-alike (refused q) o h = absurd (no-refusal h)
+    mode-alike (accepted fr) o h =
+        let sides = mode-side (k .reading) n f d c room (eqb (d .side .lsb) 1) ∙ ap (λ (x : Frame). x .side) (accepted-same h) in
+        let is : eqb (d .side .lsb) 1 ≡ false = ap (λ (x : SideInfo). eqb (x .lsb) 1) sides ∙ o in
+        ap (λ b. accepted (byMode r n f d c room b)) is ∙ sym (ap (λ b. accepted (byMode (k .reading) n f d c room b)) is) ∙ h
+
+  -- 5: outside least-bit mode the readings answer alike on any bytes; the zero flag, which is no part of a frame here, aside
+  pub readings-alike : (z : Answer Frame) → OutsideLeastBit z → readFrame k t count f ≡ z → readFrame other t count f ≡ z
+  readings-alike z o e =
+      ap (λ (a : Answer ℕ). andThen a (from r)) (sym lines-alike)
+      ∙ then-alike (frameLines k (length f)) (from (k .reading)) (from r) z
+      (λ n. given-alike (not (tablesPass t)) tablesFail _ _ z
+      (given-alike (ltb count n) (wrongCount count) _ _ z
+      (then-alike (readData k t (8 * length f) n f (record { head = 0; tail = 0 })) _ _ z
+      (λ x. then-alike (available (8 * length f) (x .1) (x .0 .range)) _ _ z
+      (λ room h. mode-alike n (x .0) (x .1) room z o h)))))
+      e

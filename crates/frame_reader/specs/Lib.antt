@@ -1,0 +1,6 @@
+pub mod Frame
+pub mod Returned
+pub mod Refusals
+pub mod Spare
+pub mod Stated
+pub mod Private

@@ -1,0 +1,21 @@
+-- Where a whole frame's refusals stand: "Refusals 9 to 11 while reading sit inside the step that met them", and any other in none.
+use Prim.Native.Nat.{ℕ, _≤_}
+use mathlib.Core.Path.{_≡_}
+use mathlib.Core.Bool.{Bool, true, false, _&&_, _||_}
+use lib.Dec.{leb, eqb}
+use Rattle.common.specs.Reply.{Step, nowhere, side, start, order, coef, symbol, bit, Reply}
+
+-- 9 stands in `bit` alone, 10 and 11 in `order`, `coef` or `symbol` alone; `side` and `start` do not occur
+abbrev pub standsIn : ℕ → Step → Bool
+standsIn n nowhere = leb n 8 || eqb n 12
+standsIn n side = false
+standsIn n start = false
+standsIn n (order f) = leb 10 n && leb n 11
+standsIn n (coef f k) = leb 10 n && leb n 11
+standsIn n (symbol p level) = leb 10 n && leb n 11
+standsIn n (bit p level) = eqb n 9
+
+pub record InFrame (r : Reply) : Type 0 where
+  pub least : 1 ≤ r .number
+  pub most : r .number ≤ 12
+  pub place : standsIn (r .number) (r .step) ≡ true

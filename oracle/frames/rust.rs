@@ -1,0 +1,136 @@
+// What the Rust makes of a case.
+
+use super::answers::{Answer, Case, Read, Refused};
+use crate::lc3::common::config::FrameDuration;
+use crate::lc3::decoder::arithmetic_codec::{decode, ArithmeticCodecError, ArithmeticDecodeError};
+use crate::lc3::decoder::buffer_reader::{BufferReader, BufferReaderError};
+use crate::lc3::decoder::side_info_reader::{self, SideInfoError};
+use crate::lc3::side_info::SideInfo;
+use std::panic::{catch_unwind, set_hook, take_hook, AssertUnwindSafe};
+use std::sync::atomic::{AtomicBool, Ordering};
+
+static CAUGHT: AtomicBool = AtomicBool::new(false);
+
+// Keeps a panic of the Rust silent; one of this program's own still says where it was.
+pub fn quiet_panics() {
+    let loud = take_hook();
+    set_hook(Box::new(move |info| {
+        if !CAUGHT.load(Ordering::Relaxed) {
+            loud(info)
+        }
+    }));
+}
+
+// A panic counts as the refusal of a single bit whose byte is not in the frame, and only where that is so.
+pub fn read(case: &Case) -> Answer {
+    let mut reader = BufferReader::new();
+    let mut lines = vec![0x5a5a; case.room];
+    CAUGHT.store(true, Ordering::Relaxed);
+    let answer = catch_unwind(AssertUnwindSafe(|| by_rust(case, &mut reader, &mut lines)));
+    CAUGHT.store(false, Ordering::Relaxed);
+    answer.unwrap_or_else(|_| {
+        let (head, tail, length) = (reader.get_head_byte_cursor(), reader.get_tail_bit_cursor(), case.frame.len());
+        assert!(head + tail / 8 <= length + 2 && tail / 8 >= length, "the Rust panics on {:?}", case);
+        Answer::Refused(Refused::new(9, &[1, tail % 8], &[6]))
+    })
+}
+
+// The reading alone, for a time: whether the frame is accepted.
+pub fn time(case: &Case, lines: &mut [i32]) -> bool {
+    let duration = [FrameDuration::TenMs, FrameDuration::SevenPointFiveMs][case.duration];
+    let mut reader = BufferReader::new();
+    let Ok(side) = side_info_reader::read(&case.frame, &mut reader, case.fs_ind, case.ne()) else { return false };
+    decode(&case.frame, &mut reader, case.fs_ind, case.ne(), &side, &duration, lines).is_ok()
+}
+
+fn by_rust(case: &Case, reader: &mut BufferReader, lines: &mut [i32]) -> Answer {
+    let duration = [FrameDuration::TenMs, FrameDuration::SevenPointFiveMs][case.duration];
+    let (frame, ne) = (&case.frame[..], case.ne());
+    let side = match side_info_reader::read(frame, reader, case.fs_ind, ne) {
+        Ok(side) => side,
+        Err(e) => return Answer::Refused(side_refusal(e)),
+    };
+    match decode(frame, reader, case.fs_ind, ne, &side, &duration, lines) {
+        Err(e) => Answer::Refused(refusal(e)),
+        Ok(data) => Answer::Read(Read {
+            side: numbers(&side),
+            orders: data.reflect_coef_order,
+            indices: data.reflect_coef_ints,
+            residual: data.residual_bits.iter().map(|bit| *bit as u8).collect(),
+            seed: data.noise_filling_seed as u32,
+            zero: data.is_zero_frame,
+            head: reader.get_head_byte_cursor(),
+            tail: reader.get_tail_bit_cursor(),
+            lines: lines.to_vec(),
+        }),
+    }
+}
+
+fn numbers(s: &SideInfo) -> [u32; 19] {
+    let (sns, pitch, tns) = (&s.sns_vq, &s.long_term_post_filter_info, s.reflect_coef_order_ari_input);
+    [
+        s.bandwidth as usize,
+        s.lastnz,
+        s.lsb_mode as usize,
+        s.global_gain_index,
+        tns[0],
+        tns[1],
+        pitch.pitch_present as usize,
+        sns.ind_lf,
+        sns.ind_hf,
+        sns.submode_msb as usize,
+        sns.submode_lsb as usize,
+        sns.g_ind,
+        sns.ls_inda,
+        sns.idx_a,
+        sns.ls_indb,
+        sns.idx_b,
+        pitch.is_active as usize,
+        pitch.pitch_index,
+        s.noise_factor,
+    ]
+    .map(|n| n as u32)
+}
+
+fn buffer(e: BufferReaderError) -> (u32, Vec<usize>) {
+    use BufferReaderError::*;
+    match e {
+        ReadByteOutOfBounds(head) | ReadU24OutOfBounds(head) => (10, vec![head]),
+        BigEndianBitReaderReadUsizeNumBitsOutOfRange(width, place) => (9, vec![width, place]),
+        BigEndianBitReaderReadBoolOutOfRange(place) => (9, vec![1, place]),
+    }
+}
+
+fn codec(e: ArithmeticCodecError) -> (u32, Vec<usize>) {
+    match e {
+        ArithmeticCodecError::AcRangeFlOutOfRange(low, limit) => (11, vec![low as usize, limit as usize]),
+        ArithmeticCodecError::BufferReader(e) => buffer(e),
+    }
+}
+
+fn side_refusal(e: SideInfoError) -> Refused {
+    use SideInfoError::*;
+    let ((number, values), step) = match e {
+        BandwidthIdxOutOfRange(bandwidth) => ((5, vec![bandwidth]), 0),
+        LastNonZeroTupleGreaterThanYLen(lastnz, ne) => ((6, vec![lastnz, ne]), 0),
+        PlcTriggerSns1OutOfRange(j) => ((7, vec![j]), 0),
+        PlcTriggerSns2OutOfRange(j) => ((8, vec![j]), 0),
+        BufferReaderError(e) => (buffer(e), 1),
+        NotImplemented => unreachable!("the Rust never makes it"),
+    };
+    Refused::new(number, &values, &[step])
+}
+
+fn refusal(e: ArithmeticDecodeError) -> Refused {
+    use ArithmeticDecodeError::*;
+    let ((number, values), step) = match e {
+        ArithmeticCodec(e) => (codec(e), vec![2]),
+        TnsOrder(f, e) => (codec(e), vec![3, f]),
+        TnsCoef(f, k, e) => (codec(e), vec![4, f, k]),
+        SpectralData(pair, level, e) => (codec(e), vec![5, pair, level]),
+        SpectralBoolData(pair, level, e) => (buffer(e), vec![6, pair, level]),
+        NegativeResidualNumBits => ((12, vec![]), vec![0]),
+        e => panic!("{:?}: a residual bit is never refused behind check 12", e),
+    };
+    Refused::new(number, &values, &step)
+}
