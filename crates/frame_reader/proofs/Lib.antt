@@ -7,3 +7,6 @@ pub mod Coded
 pub mod Whole
 pub mod Unique
 pub mod Theorems
+pub mod Heads
+pub mod Follows
+pub mod Depends

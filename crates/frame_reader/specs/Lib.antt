@@ -3,4 +3,5 @@ pub mod Returned
 pub mod Refusals
 pub mod Spare
 pub mod Stated
+pub mod Depends
 pub mod Private

@@ -14,7 +14,7 @@ use Rattle.common.specs.Reply.{Reply, Answer, accepted, refused, tablesFail, wr
 use Rattle.common.specs.Configuration.{frameLines}
 use Rattle.common.specs.Tables.{Tables, tablesPass}
 use Rattle.common.specs.declared.configuration.Configuration.{Configuration}
-use Rattle.common.proofs.Rows.{next-row, rows-size}
+use Rattle.common.proofs.Rows.{next-row}
 use Rattle.frame_reader.specs.Frame.{Frame, readFrame}
 use Rattle.frame_reader.specs.Returned.{linesBehind, told}
 use Rattle.frame_reader.proofs.Whole.{lines-refused, tables-refused, count-refused}

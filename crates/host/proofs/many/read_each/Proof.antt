@@ -6,7 +6,6 @@ use mathlib.Core.List.{List}
 use native.Mathlib.Omega.{arith}
 use native.Mathlib.Nat.{zero-add}
 use lib.ListN.{length, take, drop}
-use lib.IntN.{ℤ}
 use Rattle.common.specs.Reply.{Answer}
 use Rattle.common.specs.Configuration.{frameLines}
 use Rattle.common.specs.declared.configuration.Configuration.{Configuration}

@@ -2,7 +2,7 @@
 -- Assumes nothing.
 use Rattle.host.proofs.Places.{step-number}
 use Rattle.common.specs.Reply.{side, start, order, coef, symbol, bit}
-use mathlib.Core.Path.{refl, _∙_}
+use mathlib.Core.Path.{_∙_}
 use borrow.Author.Needs.{needs}
 use Rattle.host.proofs.told.met_number.Statement.{statement}
 use Rattle.host.proofs.told.met_number.Tie as tie
