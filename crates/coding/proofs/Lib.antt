@@ -1,4 +1,3 @@
 pub mod Codings
 pub mod Keeps
-pub mod Owns
 pub mod Unique

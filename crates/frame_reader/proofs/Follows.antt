@@ -22,7 +22,7 @@ use Rattle.coding.specs.Coding.{Coded, Coding, done, onward, met, symbolBy, tai
 use Rattle.spectral_data.specs.Spectral.{Pair, Levels, lowBits, readLevels, readSign, readPair, readPairs}
 use Rattle.spectral_data.specs.Private.{signsBy}
 use Rattle.spectral_data.proofs.Heads.{AgreeHead, Alike, Forward, Still, Any, still-done, still-onward, still-bit, forward-still, forward-onward, forward-if, forward-symbol}
-use Rattle.spectral_data.proofs.Symbols.{SameLevels, SamePair, forward-pairs}
+use Rattle.spectral_data.proofs.Symbols.{firstIn, secondIn, SameLevels, SamePair, symbolAt, levelsOn, forward-on, forward-levels, forward-pair, forward-pairs}
 use Rattle.frame_reader.specs.Depends.{symbolsOf, ByTail, bitMissing}
 use Rattle.frame_reader.proofs.Heads.{only-met}
 
@@ -125,12 +125,6 @@ module _ {A B C D : Type 0} (R : A → B → Type 0) (Q : C → D → Type 0) wh
 
 -- ---- the pairs
 
-abbrev firstIn : Levels → ℕ
-firstIn l = l .lowFirst + firstPart (l .last) * 2 ^ l .escapes
-
-abbrev secondIn : Levels → ℕ
-secondIn l = l .lowSecond + secondPart (l .last) * 2 ^ l .escapes
-
 quiet-signs : (p : ℕ) (l : Levels) → Quiet (signsBy p l)
 quiet-signs p l =
     quiet-onward (readSign p (l .escapes) (firstIn l)) _ (quiet-sign p (l .escapes) (firstIn l))
@@ -146,44 +140,19 @@ unfolding symbolsOf
 more-same x y xs ys h q = rw (h .escapes, h .last, q) refl
 
 module _ (lookup frequencies : List ℕ) (lsb : Bool) where
-  abbrev symbolAt : ℕ → ℕ → ℕ → Coding ℕ
-  symbolAt p t level = met (symbol p level) (symbolBy (rowAt 17 (rowOf lookup t level) frequencies))
-
-  -- what follows a symbol
-  abbrev levelsOn : ℕ → ℕ → ℕ → ℕ → ℕ → ℕ → ℕ → Coding Levels
-  levelsOn p t left level a b k =
-      cond (ltb k escapeSymbol) (done (record { escapes = level; last = k; lowFirst = a; lowSecond = b }))
-      (onward (lowBits lsb p level) (λ low. readLevels lookup frequencies lsb p t left (level + 1) (a + low .0 * 2 ^ level) (b + low .1 * 2 ^ level)))
-
-  forward-on : (p t left level a b k : ℕ) → ((u v : ℕ) → Forward (readLevels lookup frequencies lsb p t left (level + 1) u v)) → Forward (levelsOn p t left level a b k)
-  forward-on p t left level a b k rest =
-      forward-if (ltb k escapeSymbol) _ _ (forward-still _ (still-done (record { escapes = level; last = k; lowFirst = a; lowSecond = b })))
-      (forward-onward (lowBits lsb p level) _ (forward-still _ (quiet-low lsb p level .still)) (λ low. rest (a + low .0 * 2 ^ level) (b + low .1 * 2 ^ level)))
-
-  forward-levels : (p t left level a b : ℕ) → Forward (readLevels lookup frequencies lsb p t left level a b)
-  unfolding readLevels
-  forward-levels p t zero level a b = forward-still _ (still-done (record { escapes = level; last = escapeSymbol; lowFirst = a; lowSecond = b }))
-  forward-levels p t (suc left) level a b =
-      forward-onward (symbolAt p t level) (levelsOn p t left level a b) (forward-symbol (symbol p level) (rowAt 17 (rowOf lookup t level) frequencies))
-      (λ k. forward-on p t left level a b k (forward-levels p t left (level + 1)))
-
   follows-levels : (p t left level a b u v : ℕ) → Follows SameLevels (readLevels lookup frequencies lsb p t left level a b) (readLevels lookup frequencies lsb p t left level u v)
   unfolding readLevels
   follows-levels p t zero level a b u v = follows-done SameLevels _ _ (record { escapes = refl; last = refl })
   follows-levels p t (suc left) level a b u v =
-      follows-onward (_≡_ {A = ℕ}) SameLevels (symbolAt p t level) (symbolAt p t level) (levelsOn p t left level a b) (levelsOn p t left level u v)
+      follows-onward (_≡_ {A = ℕ}) SameLevels (symbolAt lookup frequencies lsb p t level) (symbolAt lookup frequencies lsb p t level) (levelsOn lookup frequencies lsb p t left level a b) (levelsOn lookup frequencies lsb p t left level u v)
       (follows-symbol (symbol p level) (rowAt 17 (rowOf lookup t level) frequencies)) (forward-symbol (symbol p level) (rowAt 17 (rowOf lookup t level) frequencies))
-      (λ k. forward-on p t left level a b k (forward-levels p t left (level + 1)))
-      (λ k m e. subst (λ (q : ℕ). Follows SameLevels (levelsOn p t left level a b k) (levelsOn p t left level u v q)) e
+      (λ k. forward-on lookup frequencies lsb p t left level a b k (forward-levels lookup frequencies lsb p t left (level + 1)))
+      (λ k m e. subst (λ (q : ℕ). Follows SameLevels (levelsOn lookup frequencies lsb p t left level a b k) (levelsOn lookup frequencies lsb p t left level u v q)) e
       (follows-if SameLevels (ltb k escapeSymbol) _ _ _ _
       (follows-done SameLevels (record { escapes = level; last = k; lowFirst = a; lowSecond = b }) (record { escapes = level; last = k; lowFirst = u; lowSecond = v }) (record { escapes = refl; last = refl }))
       (follows-onward Any SameLevels (lowBits lsb p level) (lowBits lsb p level) _ _ (follows-quiet _ _ (quiet-low lsb p level) (quiet-low lsb p level)) (forward-still _ (quiet-low lsb p level .still))
-      (λ low. forward-levels p t left (level + 1) (a + low .0 * 2 ^ level) (b + low .1 * 2 ^ level))
+      (λ low. forward-levels lookup frequencies lsb p t left (level + 1) (a + low .0 * 2 ^ level) (b + low .1 * 2 ^ level))
       (λ low high h. follows-levels p t left (level + 1) (a + low .0 * 2 ^ level) (b + low .1 * 2 ^ level) (u + high .0 * 2 ^ level) (v + high .1 * 2 ^ level)))))
-
-  forward-pair : (p t : ℕ) → Forward (readPair lookup frequencies lsb p t)
-  forward-pair p t =
-      forward-onward (readLevels lookup frequencies lsb p t 14 0 0 0) (signsBy p) (forward-levels p t 14 0 0 0) (λ l. forward-still _ (quiet-signs p l .still))
 
   -- whatever the signs are
   follows-signs : (p : ℕ) (l m : Levels) → SameLevels l m → Follows SamePair (signsBy p l) (signsBy p m)
@@ -199,7 +168,7 @@ module _ (lookup frequencies : List ℕ) (lsb : Bool) where
   follows-pair : (p t : ℕ) → Follows SamePair (readPair lookup frequencies lsb p t) (readPair lookup frequencies lsb p t)
   follows-pair p t =
       follows-onward SameLevels SamePair (readLevels lookup frequencies lsb p t 14 0 0 0) (readLevels lookup frequencies lsb p t 14 0 0 0) (signsBy p) (signsBy p)
-      (follows-levels p t 14 0 0 0 0 0) (forward-levels p t 14 0 0 0) (λ l. forward-still _ (quiet-signs p l .still)) (follows-signs p)
+      (follows-levels p t 14 0 0 0 0 0) (forward-levels lookup frequencies lsb p t 14 0 0 0) (λ l. forward-still _ (quiet-signs p l .still)) (follows-signs p)
 
   module _ (rate ne : ℕ) where
     abbrev contextOf : ℕ → Pair → ℕ
@@ -213,7 +182,7 @@ module _ (lookup frequencies : List ℕ) (lsb : Bool) where
     follows-pairs p zero context = follows-done Symbols [] [] refl
     follows-pairs p (suc n) context =
         follows-onward SamePair Symbols (readPair lookup frequencies lsb p (lookupStart context rate ne (2 * p))) (readPair lookup frequencies lsb p (lookupStart context rate ne (2 * p))) _ _
-        (follows-pair p (lookupStart context rate ne (2 * p))) (forward-pair p (lookupStart context rate ne (2 * p)))
+        (follows-pair p (lookupStart context rate ne (2 * p))) (forward-pair lookup frequencies lsb p (lookupStart context rate ne (2 * p)))
         (λ x. forward-onward (readPairs lookup frequencies lsb rate ne (p + 1) n _) _ (forward-pairs lookup frequencies lsb rate ne (p + 1) n _)
         (λ rest. forward-still _ (still-done (x ∷ rest))))
         (λ x y h. follows-onward Symbols Symbols (readPairs lookup frequencies lsb rate ne (p + 1) n (contextOf context x)) (readPairs lookup frequencies lsb rate ne (p + 1) n (contextOf context y)) _ _

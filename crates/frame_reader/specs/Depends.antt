@@ -1,10 +1,10 @@
 -- What is stated of two frames with the same side information and the same head bytes: the symbols and escapes do not depend on the
 -- tail bits, as long as no tail bit is refused.
-use Prim.Native.Nat.{ℕ, _%_, _<_}
+use Prim.Native.Nat.{ℕ, _<_}
 use mathlib.Core.Path.{_≡_}
 use mathlib.Core.List.{List, [], _∷_}
 use lib.ListN.{getD}
-use Rattle.common.specs.Reply.{bit, Reply, Answer, accepted, refused, residualNegative}
+use Rattle.common.specs.Reply.{bit, Reply, Answer, accepted, refused, inStep, noTailRoom, residualNegative}
 use Rattle.spectral_data.specs.Spectral.{Pair}
 use Rattle.frame_reader.specs.Frame.{Frame}
 
@@ -26,7 +26,7 @@ pub record SameSymbols (x y : Frame) : Type 0 where
 
 -- the refusals that the tail's bits can bring about: 9 in a step `bit`, and 12
 pub data ByTail : Reply → Type 0 where
-  bitMissing : (p level tail : ℕ) → ByTail (record { number = 9; values = 1 ∷ (tail % 8) ∷ []; step = bit p level })
+  bitMissing : (p level tail : ℕ) → ByTail (inStep (bit p level) (noTailRoom 1 tail))
   negative : ByTail residualNegative
 
 abbrev pub SameOrByTail : Frame → Answer Frame → Type 0

@@ -10,7 +10,7 @@ use borrow.Author.Tests.{ltb-true, ltb-false}
 use lib.Dec.{ltb, eqb}
 use lib.ListN.{length}
 use lib.IntN.{ℤ, pos, negℤ, natAbs}
-use Rattle.common.specs.Reply.{Reply, symbol, bit}
+use Rattle.common.specs.Reply.{Reply, symbol, bit, inStep, noTailRoom, headPastEnd, lowBeyondLimit}
 use Rattle.common.specs.Tables.{rowAt, rowPasses, rowsPass, lookupPasses, partPasses}
 use Rattle.common.proofs.Bools.{and-right}
 use Rattle.common.proofs.Cumulatives.{row-passed}
@@ -24,9 +24,9 @@ use Rattle.spectral_data.proofs.Sizes.{low-more, first-most, second-mos
 
 -- the refusals of this stage, each in its step: level 13 is the last of a symbol, and behind it a sign may be met at 14
 pub data Meets : Reply → Type 0 where
-  bitMissing : (p level tail : ℕ) → level ≤ 14 → Meets (record { number = 9; values = 1 ∷ (tail % 8) ∷ []; step = bit p level })
-  byteMissing : (p level head : ℕ) → level ≤ 13 → Meets (record { number = 10; values = head ∷ []; step = symbol p level })
-  lowBeyond : (p level low limit : ℕ) → level ≤ 13 → Meets (record { number = 11; values = low ∷ limit ∷ []; step = symbol p level })
+  bitMissing : (p level tail : ℕ) → level ≤ 14 → Meets (inStep (bit p level) (noTailRoom 1 tail))
+  byteMissing : (p level head : ℕ) → level ≤ 13 → Meets (inStep (symbol p level) (headPastEnd head))
+  lowBeyond : (p level low limit : ℕ) → level ≤ 13 → Meets (inStep (symbol p level) (lowBeyondLimit low limit))
 
 -- a pair's bounds
 pub record Sized (x : Pair) : Type 0 where

@@ -1,4 +1,3 @@
 pub mod Within
 pub mod Turns
 pub mod Filters
-pub mod Depends
