@@ -77,6 +77,24 @@ pub mod decoder {
                 *state = (st.ac_low, st.ac_range);
                 answer
             }
+
+            // The state behind a frame's lines: what `decode` does up to there, since it hands no state out.
+            pub fn behind_lines(
+                buf: &[u8],
+                reader: &mut BufferReader,
+                fs_ind: usize,
+                ne: usize,
+                side: &SideInfo,
+                duration: &FrameDuration,
+                lines: &mut [i32],
+            ) -> Result<State, ArithmeticDecodeError> {
+                let nbits = 8 * buf.len();
+                let mut levels = [0; MAX_LEN_SPECTRAL];
+                let mut st = ac_dec_init(buf, reader)?;
+                decode_tns_data(buf, reader, side, &mut st, nbits, duration)?;
+                decode_spectral_data(buf, reader, side, nbits, fs_ind, ne, &mut st, lines, &mut levels)?;
+                Ok((st.ac_low, st.ac_range))
+            }
         }
     }
 }

@@ -151,7 +151,7 @@ pub fn hold(is_so: bool, fault: &'static str) {
 
 // The first that is found, of so many tries that only a Rust that is not the one expected uses them up.
 pub fn search<T>(what: &str, mut find: impl FnMut() -> Option<T>) -> T {
-    (0..100_000).find_map(|_| find()).unwrap_or_else(|| stop(&format!("nothing was found: {}", what)))
+    (0..10_000_000).find_map(|_| find()).unwrap_or_else(|| stop(&format!("nothing was found: {}", what)))
 }
 
 static CAUGHT: AtomicBool = AtomicBool::new(false);
@@ -172,7 +172,7 @@ pub fn returned<R>(call: impl FnOnce() -> R, case: impl FnOnce() -> String) -> R
 }
 
 // What the Rust returns, or None where it panics.
-fn caught<R>(call: impl FnOnce() -> R) -> Option<R> {
+pub fn caught<R>(call: impl FnOnce() -> R) -> Option<R> {
     CAUGHT.store(true, Ordering::Relaxed);
     let result = catch_unwind(AssertUnwindSafe(call));
     CAUGHT.store(false, Ordering::Relaxed);

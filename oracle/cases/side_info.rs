@@ -429,7 +429,7 @@ impl Write {
     // What `encode` itself makes of the record, with all lines 0, in a frame that has room for all of it.
     fn encoded(&self) -> Vec<u8> {
         let mut whole = vec![0xff; self.frame.len().max(LONG)];
-        door::encode(self.of.ne(), self.record.side(self.of), &vec![0; self.of.ne()], &mut whole);
+        door::encode(self.of.ne(), self.record.side(self.of), &[], &vec![0; self.of.ne()], &mut whole);
         whole
     }
 }

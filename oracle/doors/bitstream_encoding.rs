@@ -75,9 +75,21 @@ pub fn side(ne: usize, writer: BufferWriter, side: &Side, bytes: &mut [u8]) -> B
     coder.writer
 }
 
-// All of `encode`, with no residual bits.
-pub fn encode(ne: usize, side: Side, lines: &[i16], bytes: &mut [u8]) {
+// All of `encode`.
+pub fn encode(ne: usize, side: Side, residual: &[bool], lines: &[i16], bytes: &mut [u8]) {
     let Side { bandwidth, sns, tns, post_filter, spec, noise_factor } = side;
-    let none = ResidualBits([].iter());
-    BitstreamEncoding::new(ne).encode(bandwidth, sns, tns, post_filter, spec, none, noise_factor, lines, bytes)
+    let bits = ResidualBits(residual.iter());
+    BitstreamEncoding::new(ne).encode(bandwidth, sns, tns, post_filter, spec, bits, noise_factor, lines, bytes)
+}
+
+// What `encode` does before the residual bits, by its own functions in its order: the tail's bits, and the coder's state.
+pub fn before_residual(ne: usize, of: &Side, lines: &[i16], bytes: &mut [u8]) -> (usize, State) {
+    let mut coder = BitstreamEncoding::new(ne);
+    coder.init(bytes);
+    coder.writer = side(ne, coder.writer, of, bytes);
+    coder.ac_enc_init();
+    let Side { tns, spec, .. } = of;
+    coder.tns_data(tns.lpc_weighting, tns.num_tns_filters, &tns.rc_order, &tns.rc_i, bytes);
+    coder.spectral_data(spec.lastnz_trunc, spec.rate_flag, spec.lsb_mode, lines, spec.nbits_lsb, bytes);
+    (coder.nbits_side_written(), state(&coder))
 }

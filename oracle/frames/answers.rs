@@ -33,6 +33,7 @@ pub struct Read {
     pub zero: bool,
     pub head: usize,
     pub tail: usize,
+    pub range: u32,
     // as lent, to the end
     pub lines: Vec<i32>,
 }
@@ -44,6 +45,11 @@ impl Read {
 
     pub fn noise(&self) -> u32 {
         self.side[NOISE]
+    }
+
+    // Document 01's count of bits, by the final cursors and range.
+    pub fn used(&self) -> usize {
+        self.tail + 8 * (self.head - 3) + 25 - self.range.ilog2() as usize
     }
 }
 

@@ -49,9 +49,15 @@ impl Maker {
             self.block();
         }
         let mut case = match self.kind {
-            Kind::Costly => self.costly(),
-            Kind::Standard if self.rng.below(4) != 0 => self.damaged(),
-            _ => self.made(),
+            Kind::Costly => {
+                let (case, set) = costly(&mut self.rng);
+                self.set = Lent::of(&set);
+                case
+            }
+            Kind::Standard if self.rng.below(4) != 0 => {
+                damaged(&mut self.rng, &self.recordings.as_ref().expect("there are real frames").frames)
+            }
+            _ => made(&mut self.rng),
         };
         let ne = case.ne();
         case.room = ne + [0, 0, self.rng.below(80), 480 - ne][self.rng.below(4)];
@@ -69,58 +75,58 @@ impl Maker {
         self.kind = kind;
         self.set = Lent::of(&set);
     }
+}
 
-    // A real frame with some bits, bytes or an end changed.
-    fn damaged(&mut self) -> Case {
-        let rng = &mut self.rng;
-        let frames = &self.recordings.as_ref().expect("there are real frames").frames;
-        let mut case = frames[rng.below(frames.len())].clone();
-        case.real = false;
-        let len = case.frame.len();
-        // in most the side information stays, so that the damage is met behind it
-        let kept = if rng.below(4) == 0 { 0 } else { 10 };
-        match rng.below(4) {
-            0 => (0..=rng.below(8)).for_each(|_| case.frame[rng.below(len - kept)] ^= 1 << rng.below(8)),
-            1 => (0..=rng.below(4)).for_each(|_| case.frame[rng.below(len - kept)] = rng.next() as u8),
-            2 => {
-                let from = rng.below(len - kept);
-                case.frame[from..len - kept].iter_mut().for_each(|byte| *byte = rng.next() as u8);
-            }
-            _ => {
-                let cut = rng.below(len - 20 + 1).min(rng.below(40));
-                case.frame.drain(len - kept.min(len - cut) - cut..len - kept.min(len - cut));
-            }
+// A real frame with some bits, bytes or an end changed.
+pub fn damaged(rng: &mut Rng, frames: &[Case]) -> Case {
+    let mut case = frames[rng.below(frames.len())].clone();
+    case.real = false;
+    let len = case.frame.len();
+    // in most the side information stays, so that the damage is met behind it
+    let kept = if rng.below(4) == 0 { 0 } else { 10 };
+    match rng.below(4) {
+        0 => (0..=rng.below(8)).for_each(|_| case.frame[rng.below(len - kept)] ^= 1 << rng.below(8)),
+        1 => (0..=rng.below(4)).for_each(|_| case.frame[rng.below(len - kept)] = rng.next() as u8),
+        2 => {
+            let from = rng.below(len - kept);
+            case.frame[from..len - kept].iter_mut().for_each(|byte| *byte = rng.next() as u8);
         }
-        case
-    }
-
-    fn made(&mut self) -> Case {
-        let rng = &mut self.rng;
-        let (fs_ind, duration) = (rng.below(5), rng.below(2));
-        let len = match rng.below(8) {
-            0 => 20,
-            1..=3 => 20 + rng.below(21),
-            _ => 20 + rng.below(381),
-        };
-        let mut case = Case { fs_ind, duration, frame: bytes(rng, len), room: 0, real: false };
-        // in every sixteenth the side information is any bits
-        if rng.below(16) != 0 {
-            put_side(rng, &mut case, false);
+        _ => {
+            let cut = rng.below(len - 20 + 1).min(rng.below(40));
+            case.frame.drain(len - kept.min(len - cut) - cut..len - kept.min(len - cut));
         }
-        case
     }
+    case
+}
 
-    // With every index's symbol at frequency 1, two filters take more bytes than the shortest frames have.
-    fn costly(&mut self) -> Case {
-        let rng = &mut self.rng;
-        let len = 20 + rng.below(4);
-        let mut case =
-            Case { fs_ind: 3 + rng.below(2), duration: rng.below(2), frame: rng.bytes(len), room: 0, real: false };
-        put_side(rng, &mut case, true);
-        let set = costly_set(rng, &case.frame);
-        self.set = Lent::of(&set);
-        case
+pub fn made(rng: &mut Rng) -> Case {
+    let of = (rng.below(5), rng.below(2));
+    made_of(rng, of)
+}
+
+// By its `fs_ind` and duration.
+pub fn made_of(rng: &mut Rng, of: (usize, usize)) -> Case {
+    let len = match rng.below(8) {
+        0 => 20,
+        1..=3 => 20 + rng.below(21),
+        _ => 20 + rng.below(381),
+    };
+    let mut case = Case { fs_ind: of.0, duration: of.1, frame: bytes(rng, len), room: 0, real: false };
+    // in every sixteenth the side information is any bits
+    if rng.below(16) != 0 {
+        put_side(rng, &mut case, false);
     }
+    case
+}
+
+// With every index's symbol at frequency 1, two filters take more bytes than the shortest frames have.
+pub fn costly(rng: &mut Rng) -> (Case, Set) {
+    let len = 20 + rng.below(4);
+    let mut case =
+        Case { fs_ind: 3 + rng.below(2), duration: rng.below(2), frame: rng.bytes(len), room: 0, real: false };
+    put_side(rng, &mut case, true);
+    let set = costly_set(rng, &case.frame);
+    (case, set)
 }
 
 // Random bytes behind a valid side information, for a time.

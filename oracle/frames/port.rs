@@ -249,10 +249,11 @@ fn answer_of(number: u32, to: &Slices, len: usize) -> Result<Answer, String> {
         zero: flag == 1,
         head: n[3],
         tail: n[4],
+        range,
         lines: to.lines.clone(),
     };
-    // the Rust does not return the range: the bits that it leaves are known where they cut the residual list short
-    let used = read.tail + 8 * (read.head - 3) + 25 - range.ilog2() as usize;
+    // the bits that are left are known where they cut the residual list short
+    let used = read.used();
     let nonzero = read.lines.iter().filter(|x| **x != 0).count();
     match read.least_bits() || count == nonzero {
         true if used <= 8 * len => Ok(Answer::Read(read)),

@@ -2,7 +2,7 @@
 
 use super::answers::{Answer, Case, Read, Refused};
 use crate::lc3::common::config::FrameDuration;
-use crate::lc3::decoder::arithmetic_codec::{decode, ArithmeticCodecError, ArithmeticDecodeError};
+use crate::lc3::decoder::arithmetic_codec::{decode, door, ArithmeticCodecError, ArithmeticDecodeError};
 use crate::lc3::decoder::buffer_reader::{BufferReader, BufferReaderError};
 use crate::lc3::decoder::side_info_reader::{self, SideInfoError};
 use crate::lc3::side_info::SideInfo;
@@ -23,16 +23,21 @@ pub fn quiet_panics() {
 
 // A panic counts as the refusal of a single bit whose byte is not in the frame, and only where that is so.
 pub fn read(case: &Case) -> Answer {
+    returned(case).unwrap_or_else(|(head, tail)| {
+        let length = case.frame.len();
+        assert!(head + tail / 8 <= length + 2 && tail / 8 >= length, "the Rust panics on {:?}", case);
+        Answer::Refused(Refused::new(9, &[1, tail % 8], &[6]))
+    })
+}
+
+// What the Rust returns; where it panics, its head and tail.
+pub fn returned(case: &Case) -> Result<Answer, (usize, usize)> {
     let mut reader = BufferReader::new();
     let mut lines = vec![0x5a5a; case.room];
     CAUGHT.store(true, Ordering::Relaxed);
     let answer = catch_unwind(AssertUnwindSafe(|| by_rust(case, &mut reader, &mut lines)));
     CAUGHT.store(false, Ordering::Relaxed);
-    answer.unwrap_or_else(|_| {
-        let (head, tail, length) = (reader.get_head_byte_cursor(), reader.get_tail_bit_cursor(), case.frame.len());
-        assert!(head + tail / 8 <= length + 2 && tail / 8 >= length, "the Rust panics on {:?}", case);
-        Answer::Refused(Refused::new(9, &[1, tail % 8], &[6]))
-    })
+    answer.map_err(|_| (reader.get_head_byte_cursor(), reader.get_tail_bit_cursor()))
 }
 
 // The reading alone, for a time: whether the frame is accepted.
@@ -61,9 +66,23 @@ fn by_rust(case: &Case, reader: &mut BufferReader, lines: &mut [i32]) -> Answer 
             zero: data.is_zero_frame,
             head: reader.get_head_byte_cursor(),
             tail: reader.get_tail_bit_cursor(),
+            range: range(case, &side, reader.get_head_byte_cursor()),
             lines: lines.to_vec(),
         }),
     }
+}
+
+// The coder's range behind an accepted frame, which `decode` keeps to itself.
+fn range(case: &Case, side: &SideInfo, head: usize) -> u32 {
+    let duration = [FrameDuration::TenMs, FrameDuration::SevenPointFiveMs][case.duration];
+    let mut reader = BufferReader::new();
+    let mut lines = [0; 400];
+    side_info_reader::read(&case.frame, &mut reader, case.fs_ind, case.ne())
+        .expect("the side information is read again");
+    let (_, range) = door::behind_lines(&case.frame, &mut reader, case.fs_ind, case.ne(), side, &duration, &mut lines)
+        .expect("the lines are read again");
+    assert_eq!(reader.get_head_byte_cursor(), head, "the lines end elsewhere");
+    range
 }
 
 fn numbers(s: &SideInfo) -> [u32; 19] {

@@ -7,3 +7,4 @@ pub mod Cumulatives
 pub mod Replies
 pub mod Unique
 pub mod Lasts
+pub mod Laid

@@ -11,7 +11,7 @@ use borrow.Author.Tests.{lt-ltb, ltb-true, le-ltb, leb-true, leb-false}
 use lib.Dec.{leb, ltb}
 use Rattle.common.proofs.Bools.{and-left, and-right, and-both, and-first-fails, and-first-holds, by-test}
 use Rattle.contexts.specs.Contexts.{shifted, fitsSymbol, escapes, escapeSymbol, symbolFrom, firstPart, secondPart, pairSymbol}
-use Rattle.contexts.proofs.Firsts.{First, first-is, first-law}
+use Rattle.contexts.proofs.Firsts.{First, first-is, first-law, first-most}
 
 -- what a test of both says
 pub fits-both : (a b n : ℕ) → shifted a n < 4 → shifted b n < 4 → fitsSymbol a b n ≡ true
@@ -94,3 +94,7 @@ pub pair-symbol-low : (a b : ℕ) → a < 65536 → b < 65536 → pairSymbol a b
 pair-symbol-low a b p q =
     let law = escapes-law a b p q in
     symbol-low (shifted a (escapes a b)) (shifted b (escapes a b)) (law .first) (law .second)
+
+-- whatever the magnitudes, there are no more than 14
+pub escapes-few : (a b : ℕ) → escapes a b ≤ 14
+escapes-few a b = omega (arith, first-most (fitsSymbol a b) 0 14)

@@ -44,3 +44,9 @@ module _ (holds : ℕ → Bool) where
       by-test (holds k)
       (λ here. rw here (record { least = omega arith; most = omega arith; here = here; before = λ i a b. absurd (omega arith) }))
       (λ fails. rw fails (later k n (firstFrom holds (suc k) n) fails (first-law (suc k) n (rw (add-suc, ← suc-add) at e))))
+
+  -- it is never past the place behind them
+  pub first-most : (k n : ℕ) → firstFrom holds k n ≤ k + n
+  unfolding firstFrom
+  first-most k zero = omega arith
+  first-most k (suc n) = by-test (holds k) (λ e. rw e (omega arith)) (λ e. rw e (omega (arith, first-most (suc k) n)))

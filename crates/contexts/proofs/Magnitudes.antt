@@ -1,6 +1,6 @@
 -- A 16-bit line is itself at 32 bits, where its negation fits too: so its magnitude is found without loss, at most 32,768.
 -- Assumes nothing.
-use Prim.Native.Nat.{ℕ, _≤_}
+use Prim.Native.Nat.{ℕ, _≤_, _<_}
 use mathlib.Core.Path.{_≡_, refl, ap}
 use mathlib.Core.Bool.{true, false, true≢false}
 use mathlib.Core.List.{List}
@@ -15,6 +15,7 @@ use mir.Syntax.{w16, w32, w64}
 use mir.Val.{Fits, SFits, toZ, ofZ}
 use mir.Facts.{toZ-ofZ}
 use Rattle.contexts.specs.Contexts.{magnitudes}
+use Rattle.contexts.specs.Lines.{minus}
 
 module _ (z : ℤ) (fits : SFits w16 z) where
   -- what the code holds of a line
@@ -67,3 +68,16 @@ magnitude-read lines k = List·getD-map natAbs lines k (pos 0)
 
 pub magnitudes-length : (lines : List ℤ) → length (magnitudes lines) ≡ length lines
 magnitudes-length lines = length-map lines natAbs
+
+-- a line's sign by the test of it
+pub minus-below : (z : ℤ) → ltZ z (pos 0) ≡ true → minus z ≡ 1
+minus-below (pos n) e = absurd (omega (arith, ltb-true n 0 e))
+minus-below (negsuc n) e = refl
+
+pub minus-above : (z : ℤ) → ltZ z (pos 0) ≡ false → minus z ≡ 0
+minus-above (pos n) e = refl
+minus-above (negsuc n) e = absurd (true≢false e)
+
+pub minus-low : (z : ℤ) → minus z < 2
+minus-low (pos n) = omega arith
+minus-low (negsuc n) = omega arith

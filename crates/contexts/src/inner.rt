@@ -1,12 +1,14 @@
 // Each notion of specs/Contexts as a call that states what it requires.
 ghost use mathlib.Core.Path.{_≡_};
 ghost use mathlib.Core.Bool.{true};
-ghost use Prim.Native.Nat.{_+_, _≤_, _<_, min};
+ghost use Prim.Native.Nat.{_+_, _*_, _≤_, _<_, min};
 ghost use lib.IntN.{natAbs};
 ghost use lib.ListN.{length, getD};
 ghost use Rattle.common.specs.Tables.{lookupPasses};
 ghost use Rattle.contexts.specs.Contexts.{rateFlag, lookupStart, rowOf, fitsSymbol, symbolFrom, nextContext, pairSymbol, contextBehind};
 ghost use Rattle.contexts.specs.Contexts as Contexts;
+ghost use Rattle.contexts.specs.Lines.{lineAt, escapesAt};
+ghost use Rattle.contexts.specs.Lines as Lines;
 
 // 512 for a frame of more bits than the sampling rate's limit, and 0 otherwise.
 pub fn rate_flag(bits: usize, fs_ind: usize) -> usize
@@ -127,4 +129,26 @@ pub fn context_behind(context: usize, a: usize, b: usize, n: usize) -> usize
     ensures { λ r. ⌜ r ≡ contextBehind context a b ⌝ }
 {
     next_context(context, a >> n, b >> n, n)
+}
+
+fn minus(line: i16) -> u32
+    ensures { λ r. ⌜ (r ≡ Lines.minus line) × (r < 2) ⌝ }
+{
+    if line < 0 { 1 } else { 0 }
+}
+
+// The sign of the line at a place, 1 for minus.
+pub fn minus_at(lines: &[i16], k: usize) -> u32
+    requires { ⌜ k < length (now lines) ⌝ }
+    ensures { λ r. ⌜ (r ≡ Lines.minus (lineAt (now (lines .entry)) k)) × (r < 2) ⌝ }
+{
+    minus(lines[k])
+}
+
+// The escapes of a pair of the lines.
+pub fn escapes_at(lines: &[i16], p: usize) -> usize
+    requires { ⌜ 2 * p + 1 < length (now lines) ⌝ }
+    ensures { λ r. ⌜ (r ≡ escapesAt (now (lines .entry)) p) × (r ≤ 14) ⌝ }
+{
+    escapes(magnitude_at(lines, 2 * p), magnitude_at(lines, 2 * p + 1))
 }

@@ -21,6 +21,7 @@ use Rattle.buffer_reader.proofs.Roomy.{Ends, ends-given, ends-then, ends-refuse
 use Rattle.side_info.specs.Reader.{readAll}
 use Rattle.side_info.specs.declared.SideInfo.{SideInfo}
 use Rattle.side_info.proofs.Start.{lines-refusal}
+use Rattle.tns_data.proofs.Within.{TnsWithin}
 use Rattle.spectral_data.specs.Spectral.{linesOf, levelsOf}
 use Rattle.spectral_data.proofs.Bounds.{All, Sized}
 use Rattle.spectral_data.proofs.Lines.{even-most, odd-most, odd-few}
@@ -33,7 +34,8 @@ use Rattle.frame_reader.specs.Refusals.{InFrame}
 use Rattle.frame_reader.specs.Spare.{used, spare}
 use Rattle.frame_reader.specs.Stated.{Listed, Magnitudes, OutsideLeastBit}
 use Rattle.frame_reader.specs.Private.{readOn}
-use Rattle.frame_reader.proofs.Data.{Behind, own-in-frame, data-ends, data-behind}
+use Rattle.frame_reader.proofs.Data.{Behind, ranges, own-in-frame, data-ends, data-behind}
+use Rattle.frame_reader.proofs.Places.{Inside}
 use Rattle.frame_reader.proofs.Magnitudes.{EvenPair, late-each, bounds, even-late, odd-late, odd-few-late, filled-size}
 use Rattle.frame_reader.proofs.Whole.{judged}
 
@@ -80,12 +82,24 @@ module _ (k : Configuration) (t : Tables) (count : ℕ) (f : List ℕ) where
 abbrev byMode : ℕ → ℕ → List ℕ → Data → Cursor → ℕ → Bool → Frame
 byMode reading ne f d c room lsb = cond lsb (withLate reading ne f d c room) (withResidual ne f d c room)
 
+-- an accepted frame is not too long, its filters are within their limits, and so are the last cursors and range
+pub record Bounded (f : List ℕ) (x : Frame) : Type 0 where
+  pub short : length f ≤ 400
+  pub filters : TnsWithin (x .side .«tns_first») (x .side .«tns_second») (x .tns)
+  pub three : 3 ≤ x .cursor .head
+  pub head : x .cursor .head ≤ length f
+  pub least : 0x10000 ≤ x .range
+  pub most : x .range ≤ 0xFFFFFF
+
 -- what stands behind an accepted frame
 record Parts (k : Configuration) (t : Tables) (f : List ℕ) (fr : Frame) : Type 0 where
   ne : ℕ
   read : Data
   cursor : Cursor
   room : ℕ
+  short : length f ≤ 400
+  filters : TnsWithin (read .side .«tns_first») (read .side .«tns_second») (read .tns)
+  place : Inside f cursor
   sized : All Sized (read .pairs)
   even : eqb (read .side .lsb) 1 ≡ true → All EvenPair (read .pairs)
   least : 0x10000 ≤ read .range
@@ -112,6 +126,9 @@ module _ (k : Configuration) (t : Tables) (count : ℕ) (f : List ℕ) (fr : Fra
         read = d;
         cursor = c;
         room = u .0;
+        short = ranges k n f (t .lookup) (t .frequencies) (t .orders) (t .coefficients) (judged k t count f n (p .1) (not-false (tablesPass t) (q .0))) .4;
+        filters = b .filters;
+        place = b .place;
         sized = b .sized;
         even = b .even;
         least = b .least;
@@ -142,6 +159,17 @@ module _ (k : Configuration) (t : Tables) (count : ℕ) (f : List ℕ) (fr : Fra
 
   pub used-and-spare : used fr + spare (8 * length f) fr ≡ 8 * length f
   used-and-spare = omega (arith, used-most)
+
+  -- its length, filters, last cursors and range are within their limits
+  pub frame-bounded : Bounded f fr
+  frame-bounded = subst (Bounded f) (P .same) (by (eqb (P .read .side .lsb) 1))
+    where
+      by : (lsb : Bool) → Bounded f (byMode (k .reading) (P .ne) f (P .read) (P .cursor) (P .room) lsb)
+      by true = record { short = P .short; filters = P .filters; three = P .place .three; head = P .place .head; least = P .least; most = P .most }
+      by false = record { short = P .short; filters = P .filters; three = P .place .three; head = P .place .head; least = P .least; most = P .most }
+
+  pub tail-most : fr .cursor .tail ≤ 8 * length f
+  tail-most = omega (arith, used-most, log-most (fr .range) (frame-bounded .least) (frame-bounded .most))
 
   -- 3: in least-bit mode there is no residual list; outside it the list has as many bits as the smaller of the room and the nonzero
   -- lines, the room being what is spare behind the list and the list itself

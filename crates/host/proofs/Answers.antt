@@ -1,4 +1,4 @@
--- What is told of a frame follows from what the reader returned of it, accepted or refused.
+-- What is told of a frame follows from what the reader or the writer returned of it, accepted or refused.
 -- Assumes nothing.
 use Prim.Native.Nat.{ℕ}
 use mathlib.Core.Path.{_≡_, refl}
@@ -8,7 +8,8 @@ use Rattle.common.specs.Reply.{Answer, accepted, refused, unlessRefused}
 use Rattle.frame_reader.specs.Frame.{Frame}
 use Rattle.frame_reader.specs.Returned.{told}
 use Rattle.frame_reader.specs.declared.Numbers.{Numbers}
-use Rattle.host.specs.Told.{numberOf}
+use Rattle.frame_writer.specs.Returned.{told as Written·told}
+use Rattle.host.specs.Told.{numberOf, placeBehind}
 
 pub number-told : (reading : ℕ) (a : Answer Frame) → numberOf (told reading a) ≡ numberOf a
 number-told reading (accepted fr) = refl
@@ -21,3 +22,12 @@ kept-told reading (refused r) before written = refl
 -- a list that was returned, laid unless the frame is refused
 pub laid-told : (reading : ℕ) (a : Answer Frame) (o : Answer Numbers) (before found list : List ℕ) → o ≡ told reading a → found ≡ list → unlessRefused o before (sets before 0 found) ≡ unlessRefused a before (sets before 0 list)
 laid-told reading a o before found list e l = rw (e, l) (kept-told reading a before (sets before 0 list))
+
+-- of a frame that is written
+pub number-written : (a : Answer (List ℕ)) → numberOf (Written·told a) ≡ numberOf a
+number-written (accepted f) = refl
+number-written (refused r) = refl
+
+pub place-written : (a : Answer (List ℕ)) (before : List ℕ) → placeBehind (Written·told a) before ≡ placeBehind a before
+place-written (accepted f) before = refl
+place-written (refused r) before = refl

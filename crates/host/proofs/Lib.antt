@@ -1,4 +1,3 @@
 pub mod Answers
 pub mod Frames
-pub mod Laid
 pub mod Places

@@ -1,3 +1,4 @@
+pub mod Given
 pub mod Many
 pub mod Private
 pub mod Told

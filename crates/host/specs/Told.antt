@@ -47,6 +47,11 @@ abbrev pub numbersBehind : Answer Numbers → List ℕ → List ℕ
 numbersBehind (accepted n) before = sets before 0 (countsOf n)
 numbersBehind (refused r) before = sets before 0 (placeOf r)
 
+-- of a frame that is written a refusal alone has something to tell
+abbrev pub placeBehind : {A : Type 0} → Answer A → List ℕ → List ℕ
+placeBehind (accepted a) before = before
+placeBehind (refused r) before = sets before 0 (placeOf r)
+
 abbrev pub wordsBehind : Answer Numbers → List ℕ → List ℕ
 wordsBehind (accepted n) before = sets before 0 (wordsOf n)
 wordsBehind (refused r) before = before

@@ -6,10 +6,14 @@ ghost use lib.ListN.{length};
 ghost use Rattle.common.specs.Tables.{tablesPass};
 ghost use Rattle.frame_reader.specs.Frame.{readFrame};
 ghost use Rattle.frame_reader.specs.Returned.{told as Returned·told, linesBehind};
+ghost use Rattle.frame_writer.specs.Frame.{writeFrame};
+ghost use Rattle.frame_writer.specs.Returned.{frameBehind};
+ghost use Rattle.host.specs.Given.{contentOf};
 ghost use Rattle.host.specs.Many.{acceptedOf, linesAfter};
-ghost use Rattle.host.specs.Told.{numberOf, wordsBehind, numbersBehind, indicesBehind, residualBehind};
+ghost use Rattle.host.specs.Told.{numberOf, wordsBehind, numbersBehind, indicesBehind, residualBehind, placeBehind};
 
 mod copies;
+mod given;
 mod many;
 mod tell;
 mod told;
@@ -58,6 +62,55 @@ pub extern "C" fn lc3_read_frame(
         lines,
     );
     tell::tell(answer, words, numbers, indices, residual)
+}
+
+// Writes one frame of the record that the slices give: 0 where it is accepted, else the refusal's number, and its place is laid over numbers.
+#[no_mangle]
+pub extern "C" fn lc3_write_frame(
+    fs_ind: usize,
+    duration: usize,
+    reading: usize,
+    lookup: &[u8],
+    frequencies: &[u16],
+    bits: &[u16],
+    orders: &[u16],
+    coefficients: &[u16],
+    words: &[u32],
+    first_order: usize,
+    second_order: usize,
+    indices: &[usize],
+    lines: &[i16],
+    residual: &[u8],
+    frame: &mut [u8],
+    numbers: &mut [usize],
+) -> u32
+    ensures number { λ r. ⌜ r ≡ numberOf (writeFrame (record { «fs_ind» = «fs_ind»; duration = duration; reading = reading }) (record { lookup = now (lookup .entry); frequencies = now (frequencies .entry); bits = now (bits .entry); orders = now (orders .entry); coefficients = now (coefficients .entry) }) (contentOf (now (words .entry)) «first_order» «second_order» (now (indices .entry)) (now (lines .entry)) (now (residual .entry))) (length (now (frame .entry)))) ⌝ }
+    ensures lent { λ _. ⌜ now (frame .exit) ≡ frameBehind (writeFrame (record { «fs_ind» = «fs_ind»; duration = duration; reading = reading }) (record { lookup = now (lookup .entry); frequencies = now (frequencies .entry); bits = now (bits .entry); orders = now (orders .entry); coefficients = now (coefficients .entry) }) (contentOf (now (words .entry)) «first_order» «second_order» (now (indices .entry)) (now (lines .entry)) (now (residual .entry))) (length (now (frame .entry)))) (now (frame .entry)) ⌝ }
+    ensures place { λ _. ⌜ now (numbers .exit) ≡ placeBehind (writeFrame (record { «fs_ind» = «fs_ind»; duration = duration; reading = reading }) (record { lookup = now (lookup .entry); frequencies = now (frequencies .entry); bits = now (bits .entry); orders = now (orders .entry); coefficients = now (coefficients .entry) }) (contentOf (now (words .entry)) «first_order» «second_order» (now (indices .entry)) (now (lines .entry)) (now (residual .entry))) (length (now (frame .entry)))) (now (numbers .entry)) ⌝ }
+{
+    let configuration = Configuration {
+        fs_ind,
+        duration,
+        reading,
+    };
+    let side = given::side(words);
+    let places = given::places(indices);
+    let answer = frame_writer::write(
+        configuration,
+        lookup,
+        frequencies,
+        bits,
+        orders,
+        coefficients,
+        side,
+        first_order,
+        second_order,
+        places,
+        lines,
+        residual,
+        frame,
+    );
+    tell::tell_written(answer, numbers)
 }
 
 // Whether a table set passes: 1 if it does, else 0.

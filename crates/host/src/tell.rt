@@ -1,15 +1,17 @@
-// What was read, laid over the host's slices.
+// What was read, or why a frame was not written, laid over the host's slices.
 ghost use mathlib.Core.Path.{_≡_};
 ghost use lib.Seq.{sets};
 ghost use Rattle.common.specs.Reply.{unlessRefused};
 ghost use Rattle.frame_reader.specs.Returned.{replyOf, outcomeOf};
-ghost use Rattle.host.specs.Told.{numberOf, wordsOf, countsOf, placeOf, wordsBehind, numbersBehind};
+ghost use Rattle.frame_writer.specs.Returned.{writtenOf};
+ghost use Rattle.host.specs.Told.{numberOf, wordsOf, countsOf, placeOf, wordsBehind, numbersBehind, placeBehind};
 use crate::copies;
 use crate::told;
 use frame_reader::FrameError;
 use frame_reader::FrameRead;
 use frame_reader::Numbers;
 use frame_reader::Outcome;
+use frame_writer::FrameWritten;
 
 fn tell_lists(answer: FrameRead, indices: &mut [usize], residual: &mut [u8])
     ensures tns { λ _. ⌜ now (indices .exit) ≡ sets (now (indices .entry)) 0 (answer .indices) ⌝ }
@@ -61,5 +63,19 @@ pub(crate) fn tell(
             0
         }
         Outcome::Refused(e) => tell_refusal(e, numbers),
+    }
+}
+
+pub(crate) fn tell_written(answer: FrameWritten, numbers: &mut [usize]) -> u32
+    ensures number { λ r. ⌜ r ≡ numberOf (writtenOf answer) ⌝ }
+    ensures place { λ _. ⌜ now (numbers .exit) ≡ placeBehind (writtenOf answer) (now (numbers .entry)) ⌝ }
+{
+    match answer {
+        FrameWritten::Written => 0,
+        FrameWritten::Refused(e) => {
+            let place = told::write_place(e);
+            copies::put(numbers, &place);
+            told::write_number(e)
+        }
     }
 }

@@ -3,12 +3,14 @@ ghost use mathlib.Core.Path.{_≡_};
 ghost use mathlib.Core.Bool.{cond};
 ghost use Rattle.coding.specs.Coding.{refusalOf, metOf};
 ghost use Rattle.frame_reader.specs.Returned.{replyOf};
+ghost use Rattle.frame_writer.specs.Returned.{replyOf as Written·replyOf};
 ghost use Rattle.host.specs.Told.{wordsOf, countsOf, placeOf};
 ghost use Rattle.host.specs.Private.{inPlace};
 use coding::Met;
 use coding::Refusal;
 use frame_reader::FrameError;
 use frame_reader::Numbers;
+use frame_writer::WriteError;
 
 pub(crate) fn one_if(flag: bool) -> u32
     ensures { λ r. ⌜ r ≡ cond flag 1 0 ⌝ }
@@ -158,5 +160,35 @@ pub(crate) fn number(e: FrameError) -> u32
         FrameError::PlcTriggerSns2OutOfRange(_) => 8,
         FrameError::Step(m) => met_number(m),
         FrameError::NegativeResidualNumBits => 12,
+    }
+}
+
+pub(crate) fn write_place(e: WriteError) -> [usize; 5]
+    ensures { λ r. ⌜ r ≡ placeOf (Written·replyOf e) ⌝ }
+{
+    match e {
+        WriteError::OutsideLimits => [0; 5],
+        WriteError::WrongLength(len) => [len, 0, 0, 0, 0],
+        WriteError::TablesFail => [0; 5],
+        WriteError::WrongCount(count) => [count, 0, 0, 0, 0],
+        WriteError::FieldOutside => [0; 5],
+        WriteError::LineOutside(place) => [place, 0, 0, 0, 0],
+        WriteError::ResidualTooLong => [0; 5],
+        WriteError::NoRoom => [0; 5],
+    }
+}
+
+pub(crate) fn write_number(e: WriteError) -> u32
+    ensures { λ r. ⌜ r ≡ Written·replyOf e .number ⌝ }
+{
+    match e {
+        WriteError::OutsideLimits => 1,
+        WriteError::WrongLength(_) => 2,
+        WriteError::TablesFail => 3,
+        WriteError::WrongCount(_) => 4,
+        WriteError::FieldOutside => 13,
+        WriteError::LineOutside(_) => 14,
+        WriteError::ResidualTooLong => 15,
+        WriteError::NoRoom => 16,
     }
 }

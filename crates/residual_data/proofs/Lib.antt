@@ -7,3 +7,7 @@ pub mod Limits
 pub mod Turns
 pub mod Readings
 pub mod Seeds
+pub mod Puts
+pub mod Evened
+pub mod Cuts
+pub mod Back

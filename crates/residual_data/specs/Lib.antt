@@ -1,3 +1,4 @@
+pub mod Sent
 pub mod Residual
 pub mod Sums
 pub mod Private

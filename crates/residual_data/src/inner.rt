@@ -1,8 +1,8 @@
 // The stage's parts, which the frame's reader calls behind its checks. No bit is refused here: the room says that its byte is there.
 ghost use mathlib.Core.Path.{_≡_};
-ghost use Prim.Native.Nat.{_+_, _*_, _≤_, _<_, min};
+ghost use Prim.Native.Nat.{_+_, _*_, _%_, _≤_, _<_, min};
 ghost use mathlib.Core.Bool.{cond};
-ghost use mathlib.Core.List.{_++_};
+ghost use mathlib.Core.List.{[], _∷_, _++_};
 ghost use lib.Dec.{eqb};
 ghost use lib.ListN.{length, take, drop};
 ghost use lib.IntN.{pos, negsuc, natAbs};
@@ -11,7 +11,9 @@ ghost use Rattle.residual_data.specs.Residual.{usedBits, bitsFrom, resid
 ghost use Rattle.residual_data.specs.Residual.{available as Residual·available, nonzero as Residual·nonzero, larger as Residual·larger};
 ghost use Rattle.residual_data.specs.Sums.{zeroFlag};
 ghost use Rattle.residual_data.specs.Sums.{seed as Sums·seed};
-ghost use Rattle.residual_data.specs.Private.{availableOf, lateOf, held, AtMost};
+ghost use Rattle.sending.specs.Sending.{Owner, owned, putBits};
+ghost use Rattle.residual_data.specs.Sent.{residualBits, lateAt, latePair, latePairs};
+ghost use Rattle.residual_data.specs.Private.{availableOf, lateOf, held, AtMost, Cut};
 use crate::Available;
 use crate::LateLine;
 use buffer_reader::Cursor;
@@ -58,7 +60,7 @@ fn counts(line: i32) -> usize
 }
 
 // How many of the first lines are not 0.
-fn nonzero(lines: &[i32], ne: usize) -> usize
+pub fn nonzero(lines: &[i32], ne: usize) -> usize
     requires { ⌜ ne ≤ length (now lines) ⌝ }
     ensures { λ r. ⌜ (r ≡ Residual·nonzero (take ne (now (lines .entry)))) × (r ≤ ne) ⌝ }
 {
@@ -201,7 +203,7 @@ pub fn late_lines(
     at
 }
 
-fn magnitude(line: i32) -> u32
+pub fn magnitude(line: i32) -> u32
     requires { ⌜ natAbs line ≤ 81920 ⌝ }
     ensures { λ r. ⌜ r ≡ natAbs line ⌝ }
 {
@@ -253,4 +255,99 @@ pub fn zero_flag(
         return true;
     }
     noise == 7
+}
+
+// What is written. How many lines are not 0.
+pub fn nonzero_written(lines: &[i16]) -> usize
+    ensures { λ r. ⌜ r ≡ Residual·nonzero (now (lines .entry)) ⌝ }
+{
+    let mut n = 0;
+    let mut k = 0;
+    while k < lines.len() {
+        n += one_above(contexts::inner::magnitude_at(lines, k));
+        k += 1;
+    }
+    n
+}
+
+fn one_above(magnitude: usize) -> usize
+    ensures { λ r. ⌜ r ≡ cond (eqb magnitude 0) 0 1 ⌝ }
+{
+    if magnitude == 0 { 0 } else { 1 }
+}
+
+fn low_bit(value: u8) -> u32
+    ensures { λ r. ⌜ r ≡ value % 2 ⌝ }
+{
+    (value % 2) as u32
+}
+
+// The residual list as far as there is room, a bit to each nonzero line in order: the lines say whose the bits are.
+pub fn put_residual(buf: &mut [u8], place: usize, room: usize, lines: &[i16], residual: &[u8])
+    requires { ⌜ (length (now buf) ≤ 65535) × (place + room ≤ 8 * length (now buf)) × (length (now residual) ≤ Residual·nonzero (now lines)) ⌝ }
+    ensures { λ _. ⌜ now (buf .exit) ≡ putBits (now (buf .entry)) place (take room (residualBits 0 (now (lines .entry)) (now (residual .entry)))) ⌝ }
+{
+    let n = lesser(room, residual.len());
+    let mut i = 0;
+    while i < n {
+        buffer_writer::inner::put_bit(buf, place + i, low_bit(residual[i]));
+        i += 1;
+    }
+}
+
+// A late bit, if there is room before the end. Returns the place behind it.
+fn put_before(buf: &mut [u8], at: usize, end: usize, value: u32) -> usize
+    requires { ⌜ (at ≤ end) × (end ≤ 8 * length (now buf)) × (value < 2) ⌝ }
+    ensures { λ r. ⌜ ((o : Owner) → Cut (now (buf .entry)) at end (owned o value ∷ []) r (now (buf .exit))) ⌝ }
+{
+    if at == end {
+        return at;
+    }
+    buffer_writer::inner::put_bit(buf, at, value);
+    at + 1
+}
+
+fn lowest_bit(magnitude: usize) -> u32
+    ensures { λ r. ⌜ r ≡ magnitude % 2 ⌝ }
+{
+    (magnitude % 2) as u32
+}
+
+// A line's lowest bit, and behind it the sign of a magnitude 1.
+fn put_late_line(buf: &mut [u8], at: usize, end: usize, lines: &[i16], k: usize) -> usize
+    requires { ⌜ (at ≤ end) × (end ≤ 8 * length (now buf)) × (k < length (now lines)) ⌝ }
+    ensures { λ r. ⌜ Cut (now (buf .entry)) at end (lateAt (now (lines .entry)) k) r (now (buf .exit)) ⌝ }
+{
+    let magnitude = contexts::inner::magnitude_at(lines, k);
+    let next = put_before(buf, at, end, lowest_bit(magnitude));
+    if magnitude != 1 {
+        return next;
+    }
+    put_before(buf, next, end, contexts::inner::minus_at(lines, k))
+}
+
+// Both lines of a pair, if it is escaped.
+fn put_late_pair(buf: &mut [u8], at: usize, end: usize, lines: &[i16], p: usize) -> usize
+    requires { ⌜ (at ≤ end) × (end ≤ 8 * length (now buf)) × (2 * p + 1 < length (now lines)) ⌝ }
+    ensures { λ r. ⌜ Cut (now (buf .entry)) at end (latePair (now (lines .entry)) p) r (now (buf .exit)) ⌝ }
+{
+    if contexts::inner::escapes_at(lines, p) == 0 {
+        return at;
+    }
+    let next = put_late_line(buf, at, end, lines, 2 * p);
+    put_late_line(buf, next, end, lines, 2 * p + 1)
+}
+
+// What comes late in least-bit mode, as far as there is room.
+pub fn put_late(buf: &mut [u8], place: usize, room: usize, lines: &[i16], pairs: usize)
+    requires { ⌜ (length (now buf) ≤ 65535) × (place + room ≤ 8 * length (now buf)) × (2 * pairs ≤ length (now lines)) ⌝ }
+    ensures { λ _. ⌜ now (buf .exit) ≡ putBits (now (buf .entry)) place (take room (latePairs (now (lines .entry)) 0 pairs)) ⌝ }
+{
+    let end = place + room;
+    let mut at = place;
+    let mut p = 0;
+    while p < pairs {
+        at = put_late_pair(buf, at, end, lines, p);
+        p += 1;
+    }
 }

@@ -30,7 +30,7 @@ pub enum SideWritten {
 }
 
 // A field's width, 0 where it is absent, and the number in it.
-pub(crate) struct Field(pub usize, pub u32);
+pub struct Field(pub usize, pub u32);
 
 // The tail behind the fields, or refusal 9 for the first that has no room.
 pub(crate) enum Room {
@@ -99,6 +99,17 @@ fn room_for(bits: usize, place: usize, fields: [Field; 16]) -> Room
     Room::Fits(tail)
 }
 
+// The bits of fields: where they end in a frame that has room for them.
+pub(crate) fn length_of(fields: [Field; 16]) -> usize
+    requires { ⌜ (length fields ≡ 16) × (lengthOf fields ≤ 3200) ⌝ }
+    ensures { λ r. ⌜ r ≡ lengthOf fields ⌝ }
+{
+    match room_for(3200, 0, fields) {
+        Room::Refused(_) => 0,
+        Room::Fits(tail) => tail,
+    }
+}
+
 // Whether a field that is there passes the start.
 fn passes_start(bits: usize, tail: usize, width: usize) -> bool
     ensures { λ r. ⌜ r ≡ (leb 1 width && ltb bits (tail + width)) ⌝ }
@@ -109,7 +120,7 @@ fn passes_start(bits: usize, tail: usize, width: usize) -> bool
     buffer_writer::inner::beyond(bits, tail, width)
 }
 
-fn put_fields(buf: &mut [u8], place: usize, fields: [Field; 16])
+pub(crate) fn put_fields(buf: &mut [u8], place: usize, fields: [Field; 16])
     requires { ⌜ (length (now buf) ≤ 400) × (place + lengthOf fields ≤ 8 * length (now buf)) × (length fields ≡ 16) ⌝ }
     ensures { λ _. ⌜ now (buf .exit) ≡ putFields (now (buf .entry)) place fields ⌝ }
 {
@@ -151,7 +162,7 @@ fn joint_of(s: Sns) -> u32
     }
 }
 
-fn fields_of(s: SideInfo, fs_ind: usize, ne: usize) -> [Field; 16]
+pub(crate) fn fields_of(s: SideInfo, fs_ind: usize, ne: usize) -> [Field; 16]
     requires { ⌜ («fs_ind» ≤ 4) × (60 ≤ ne) × (ne ≤ 400) × (sidePasses «fs_ind» ne s ≡ true) ⌝ }
     ensures { λ r. ⌜ r ≡ sideFields «fs_ind» ne s ⌝ }
 {

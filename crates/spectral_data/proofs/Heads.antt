@@ -1,19 +1,20 @@
 -- Codings at the head, by the forms that codings are made of: none goes back there, and a tail bit leaves the coder and the head as
 -- they are. And what two answers share behind the same head bytes. Assumes nothing.
-use Prim.Native.Nat.{ℕ, _+_, _*_, _≤_, _<_}
-use mathlib.Core.Path.{_≡_, refl, sym, ap, subst, _∙_}
+use Prim.Native.Nat.{ℕ, _≤_, _<_}
+use mathlib.Core.Path.{_≡_, refl, sym, ap, _∙_}
 use mathlib.Core.Bool.{Bool, true, false, cond}
 use mathlib.Core.List.{List}
 use native.Mathlib.Omega.{arith}
-use lib.Dec.{leb, ltb}
+use native.Mathlib.Nat.{add-zero}
+use lib.Dec.{ltb}
 use lib.ListN.{length, getD}
-use Rattle.common.specs.Reply.{Step, Answer, accepted, wrongLength, headPastEnd, noTailRoom, lowBeyondLimit}
+use Rattle.common.specs.Reply.{Step, accepted, wrongLength, noTailRoom}
 use Rattle.common.proofs.Replies.{accepted-same, then-split, given-split, within-split}
-use Rattle.buffer_reader.specs.Reads.{takeByte, takeBit, bitBeyond}
-use Rattle.buffer_reader.specs.Steps.{next, found, asNumber}
+use Rattle.buffer_reader.specs.Reads.{takeBit, bitBeyond}
+use Rattle.buffer_reader.specs.Steps.{asNumber}
 use Rattle.buffer_reader.specs.declared.Cursor.{Cursor}
-use Rattle.range_decoder.specs.Decoder.{unitOf, owner, narrowed, appendByte, renormalised, symbolStep, Decoded}
 use Rattle.range_decoder.specs.declared.DecoderState.{DecoderState}
+use Rattle.sending.proofs.Tracing.{traced-symbol}
 use Rattle.coding.specs.Coding.{Coded, Coding, done, onward, met, symbolBy, bitNext, tailBitBy}
 
 -- two frames agree on the head's places from one to another
@@ -96,59 +97,11 @@ pub forward-if : {A : Type 0} (t : Bool) (k l : Coding A) → Forward k → Forw
 forward-if true k l p q = p
 forward-if false k l p q = q
 
--- ---- a symbol
-
-byte-split : (f : List ℕ) (c : Cursor) (r : ℕ × Cursor) → takeByte f c ≡ accepted r → (getD f (c .head) 0, record { head = c .head + 1; tail = c .tail }) ≡ r
-byte-split f c r e =
-    let a = given-split (ltb 65535 (length f)) (wrongLength (length f)) _ e in
-    let b = given-split (leb (length f) (c .head)) (headPastEnd (c .head)) _ (a .1) in
-    accepted-same (b .1)
-
--- one turn of the renormalising
-abbrev turnIf : Bool → DecoderState → List ℕ → Cursor → Answer (DecoderState × Cursor)
-turnIf t s = cond t (next takeByte (λ byte. found (record { low = s .low * 256 + byte; range = s .range * 256 }))) (found s)
-
-record Turned (f : List ℕ) (s : DecoderState) (c : Cursor) (t : Bool) (x : DecoderState × Cursor) : Type 0 where
-  state : x .0 ≡ cond t (record { low = s .low * 256 + getD f (c .head) 0; range = s .range * 256 }) s
-  head : x .1 .head ≡ cond t (c .head + 1) (c .head)
-
-turn-split : (f : List ℕ) (s : DecoderState) (c : Cursor) (t : Bool) (x : DecoderState × Cursor) → turnIf t s f c ≡ accepted x → Turned f s c t x
-turn-split f s c true x e =
-    let p = then-split (takeByte f c) (λ r. found (record { low = s .low * 256 + r .0; range = s .range * 256 }) f (r .1)) e in
-    subst (Turned f s c true) (accepted-same (p .2))
-    (subst (λ (r : ℕ × Cursor). Turned f s c true (record { low = s .low * 256 + r .0; range = s .range * 256 }, r .1)) (byte-split f c (p .0) (p .1)) (record { state = refl; head = refl }))
-turn-split f s c false x e = subst (Turned f s c false) (accepted-same e) (record { state = refl; head = refl })
-
-turned-on : (f : List ℕ) (s : DecoderState) (c : Cursor) (t : Bool) (x : DecoderState × Cursor) → Turned f s c t x → c .head ≤ x .1 .head
-turned-on f s c true x h = omega (arith, h .head)
-turned-on f s c false x h = omega (arith, h .head)
-
-renormalised-on : (f : List ℕ) (s : DecoderState) (c : Cursor) (x : DecoderState × Cursor) → renormalised s f c ≡ accepted x → c .head ≤ x .1 .head
-renormalised-on f s c x e =
-    let p = then-split (appendByte s f c) (λ r. appendByte (r .0) f (r .1)) e in
-    let a = turned-on f s c (ltb (s .range) 0x10000) (p .0) (turn-split f s c _ (p .0) (p .1)) in
-    let b = turned-on f (p .0 .0) (p .0 .1) (ltb (p .0 .0 .range) 0x10000) x (turn-split f (p .0 .0) (p .0 .1) _ x (p .2)) in
-    omega arith
-
--- a symbol that was read: the owner, and the state behind the bytes that it appends
-module _ (row : List ℕ) (s : DecoderState) where
-  abbrev ownerOf : ℕ
-  ownerOf = owner (unitOf (s .range)) (s .low) row
-
-  abbrev ownPart : DecoderState
-  ownPart = narrowed (unitOf (s .range)) (s .low) row ownerOf
-
-  symbol-split : (step : Step) (f : List ℕ) (c : Cursor) (x : Coded ℕ × Cursor) → met step (symbolBy row) s f c ≡ accepted x →
-      (v : DecoderState × Cursor) × (renormalised ownPart f c ≡ accepted v) × (_≡_ {A = Coded ℕ × Cursor} (record { value = ownerOf; state = v .0 }, v .1) x)
-  symbol-split step f c x e =
-      let p = then-split (symbolStep s row f c) (λ r. found (record { value = r .0 .symbol; state = r .0 .state }) f (r .1)) (within-split step _ e) in
-      let a = given-split (leb (1024 * unitOf (s .range)) (s .low)) (lowBeyondLimit (s .low) (1024 * unitOf (s .range))) _ (p .1) in
-      let q = then-split (renormalised ownPart f c) (λ r. found (record { symbol = ownerOf; state = r .0 }) f (r .1)) (a .1) in
-      (q .0, q .1, ap (λ (r : Decoded × Cursor). (record { value = r .0 .symbol; state = r .0 .state }, r .1)) (accepted-same (q .2)) ∙ accepted-same (p .2))
-
+-- a symbol: the head goes on by its shifts
 pub forward-symbol : (step : Step) (row : List ℕ) → Forward (met step (symbolBy row))
 forward-symbol step row =
     record {
-      on = λ s f c x e. let p = symbol-split row s step f c x e in
-          subst (λ (r : Coded ℕ × Cursor). c .head ≤ r .1 .head) (p .2) (renormalised-on f (ownPart row s) c (p .0) (p .1));
+      on = λ s f c x e.
+          let at = traced-symbol step row s f c x e .place (record { base = 0; range = s .range; shifts = 0 }) (c .head) (record { range = refl; head = sym (add-zero (c .head)) }) in
+          omega (arith, at .head);
     }

@@ -6,3 +6,7 @@ pub mod Pairs
 pub mod Lines
 pub mod Heads
 pub mod Symbols
+pub mod Sends
+pub mod Back
+pub mod Retrace
+pub mod Puts

@@ -10,9 +10,12 @@ use lib.ListN.{length, drop}
 use Rattle.common.specs.Reply.{Answer, accepted, refused, symbol}
 use Rattle.common.specs.Tables.{rowAt, lookupPasses, partPasses}
 use Rattle.contexts.specs.Contexts.{rowOf, escapeSymbol, firstPart, secondPart}
+use Rattle.contexts.specs.Lines.{magnitudeAt}
 use Rattle.buffer_reader.specs.declared.Cursor.{Cursor}
 use Rattle.range_decoder.specs.Decoder.{rangePasses}
 use Rattle.range_decoder.specs.declared.DecoderState.{DecoderState}
+use Rattle.sending.specs.Sending.{Bit}
+use Rattle.sending.specs.Private.{putAll}
 use Rattle.coding.specs.Coding.{Coded, Coding, done, onward, met, symbolBy, metOf}
 use Rattle.spectral_data.specs.Spectral.{Pair, Levels, lowBits, readSign, linesOf}
 use Rattle.spectral_data.specs.Spectral.{levelsOf as levelsIn·pairs}
@@ -37,6 +40,10 @@ pub record Judged (f : List ℕ) (s : DecoderState) (lookup frequencies : List �
   pub range : rangePasses (s .range) ≡ true
   pub looked : lookupPasses lookup ≡ true
   pub rows : partPasses 64 17 frequencies ≡ true
+
+-- what the frame's writer has judged: no line is -32768
+abbrev pub Modest : List ℤ → Type 0
+Modest lines = (k : ℕ) → magnitudeAt lines k ≤ 32767
 
 -- one level of a pair: its last symbol, or an escape with its two low bits
 pub data Turned : Type 0 where
@@ -102,3 +109,8 @@ pairOf (PairRefused e) = refused (metOf e)
 abbrev pub pairsOf : PairsRead → List ℤ → List ℕ → Answer (Coded (List ℤ × List ℕ) × Cursor)
 pairsOf (At s c) lines levels = accepted (record { value = (lines, levels); state = s }, c)
 pairsOf (PairsRefused e) lines levels = refused (metOf e)
+
+-- bits put, or counted alone, from a place on, with the place behind them
+pub record Put (writing : Bool) (f : List ℕ) (place : ℕ) (bits : List Bit) (next : ℕ) (g : List ℕ) : Type 0 where
+  pub behind : next ≡ place + length bits
+  pub lent : g ≡ putAll writing f place bits

@@ -1,19 +1,25 @@
 // The spectral stage on what the frame's reader has judged: nothing but 9, 10 and 11 is left to refuse.
 ghost use mathlib.Core.Path.{_≡_};
-ghost use mathlib.Core.Bool.{cond, _&&_};
+ghost use mathlib.Core.Bool.{true, cond, _&&_};
 ghost use Prim.Native.Nat.{_+_, _*_, _^_, _≤_, _<_};
 ghost use lib.Dec.{eqb};
 ghost use lib.IntN.{pos, negℤ};
 ghost use lib.ListN.{length, set};
+ghost use Rattle.common.specs.Tables.{lookupPasses, partPasses};
+ghost use Rattle.sending.specs.Private.{Ready, sentAll, laidAll};
+ghost use Rattle.spectral_data.specs.Sent.{sentPairs};
 ghost use Rattle.range_decoder.specs.declared.DecoderState.{DecoderState as State};
 ghost use Rattle.contexts.specs.Contexts.{firstPart, secondPart, nextContext};
 ghost use Rattle.spectral_data.specs.Spectral.{lowBits, readLevels, readSign, readPair, readPairs};
+ghost use Rattle.sending.specs.Private.{Puts, putAll};
+ghost use Rattle.spectral_data.specs.Sent.{pairsBits};
 ghost use Rattle.spectral_data.specs.Private.{Judged, Bounded, lowOf, turnBy, turnOf, levelsIn, levelsOf, lineOf, signsBy, pairOf, filling, pairsOf};
 use buffer_reader::Cursor;
 use coding::Met;
 use coding::inner::BitMet;
 use coding::inner::SymbolMet;
 use range_decoder::DecoderState;
+use range_encoder::EncoderState;
 
 // The two tail bits behind an escape.
 pub(crate) enum LowBits {
@@ -64,7 +70,7 @@ pub enum PairsRead {
 }
 
 // In least-bit mode an escape has no tail bits at level 0.
-fn without_bits(lsb: bool, level: usize) -> bool
+pub(crate) fn without_bits(lsb: bool, level: usize) -> bool
     ensures { λ r. ⌜ r ≡ (lsb && eqb level 0) ⌝ }
 {
     if lsb {
@@ -311,4 +317,49 @@ fn context_behind(context: usize, pair: Pair) -> usize
     ensures { λ r. ⌜ r ≡ nextContext context (firstPart (pair .last)) (secondPart (pair .last)) (pair .escapes) ⌝ }
 {
     contexts::inner::next_context(context, pair.last % 4, pair.last / 4, pair.escapes)
+}
+
+// The symbols of the pairs of a frame that is written, into the head of a lent buffer, or counted alone.
+pub fn send_pairs(
+    buf: &mut [u8],
+    st: EncoderState,
+    writing: bool,
+    lookup: &[u8],
+    frequencies: &[u16],
+    rate: usize,
+    ne: usize,
+    lines: &[i16],
+    pairs: usize,
+) -> EncoderState
+    requires { ⌜ (lookupPasses (now lookup) ≡ true) × (partPasses 64 17 (now frequencies) ≡ true) × (rate ≤ 512) × (2 * pairs ≤ length (now lines)) × (pairs ≤ 200) × Ready writing st (length (now buf)) (sentPairs (now lookup) (now frequencies) rate ne (now lines) 0 pairs 0) ⌝ }
+    ensures state { λ r. ⌜ r ≡ sentAll writing st (sentPairs (now (lookup .entry)) (now (frequencies .entry)) rate ne (now (lines .entry)) 0 pairs 0) ⌝ }
+    ensures lent { λ _. ⌜ now (buf .exit) ≡ laidAll writing st (now (buf .entry)) (sentPairs (now (lookup .entry)) (now (frequencies .entry)) rate ne (now (lines .entry)) 0 pairs 0) ⌝ }
+{
+    crate::send::pairs(
+        buf,
+        st,
+        writing,
+        lookup,
+        frequencies,
+        rate,
+        ne,
+        lines,
+        pairs,
+    )
+}
+
+// The tail bits of so many pairs, written or counted alone. Returns the place behind them.
+pub fn put_pairs(
+    buf: &mut [u8],
+    writing: bool,
+    place: usize,
+    lsb: bool,
+    lines: &[i16],
+    pairs: usize,
+) -> usize
+    requires { ⌜ (2 * pairs ≤ length (now lines)) × (Puts writing (now buf) place (length (pairsBits lsb (now lines) 0 pairs))) ⌝ }
+    ensures next { λ r. ⌜ r ≡ place + length (pairsBits lsb (now (lines .entry)) 0 pairs) ⌝ }
+    ensures lent { λ _. ⌜ now (buf .exit) ≡ putAll writing (now (buf .entry)) place (pairsBits lsb (now (lines .entry)) 0 pairs) ⌝ }
+{
+    crate::put::put_pairs(buf, writing, place, lsb, lines, pairs)
 }

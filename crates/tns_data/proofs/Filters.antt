@@ -72,7 +72,7 @@ laid-refused : (l : List ℕ) (at : ℕ) (a : Answer (Coded Filter × Cursor)) {
 laid-refused l at (accepted x) e = absurd (no-refusal e)
 laid-refused l at (refused q) e = ap (λ x. refused (refusalIn q x)) e
 
-abbrev zeros : ℕ → List ℕ
+abbrev pub zeros : ℕ → List ℕ
 zeros n = replicate n 0
 
 -- zeros behind a list
@@ -87,7 +87,7 @@ drop-zeros (suc m) zero h = absurd (omega arith)
 drop-zeros (suc m) (suc n) h = let e : suc n - suc m ≡ n - m = omega arith in rw e (drop-zeros m n (omega arith))
 
 module _ (xs : List ℕ) (n m : ℕ) (within : length xs ≤ n) (enough : n ≤ m + length xs) where
-  take-padded : take n (xs ++ zeros m) ≡ xs ++ zeros (n - length xs)
+  pub take-padded : take n (xs ++ zeros m) ≡ xs ++ zeros (n - length xs)
   take-padded =
       let e : n ≡ length xs + (n - length xs) = omega arith in
       ap (λ (k : ℕ). take k (xs ++ zeros m)) e ∙

@@ -1,3 +1,9 @@
 pub mod Within
 pub mod Turns
 pub mod Filters
+pub mod Sends
+pub mod Back
+pub mod Image
+pub mod Retrace
+pub mod Passes
+pub mod Leaves

@@ -1,6 +1,7 @@
 -- Not needed to believe anything: what private contracts and proofs here speak by. No public contract cites it.
 use Prim.Native.Nat.{ℕ}
 use mathlib.Core.List.{List}
+use lib.ListN.{take, drop}
 use lib.Seq.{sets}
 use Rattle.common.specs.Reply.{Answer, accepted, refused, andThen}
 use Rattle.buffer_reader.specs.declared.Cursor.{Cursor}
@@ -54,3 +55,7 @@ told a =
       state = r .0 .state;
       cursor = r .1;
     }))
+
+-- a filter whose indices stand from a place on
+abbrev pub filterAt : ℕ → ℕ → List ℕ → Filter
+filterAt from order indices = record { order = order; indices = take order (drop from indices) }

@@ -7,11 +7,14 @@ ghost use lib.ListN.{length, replicate};
 ghost use Rattle.common.specs.Tables.{partPasses};
 ghost use Rattle.range_decoder.specs.Decoder.{rangePasses};
 ghost use Rattle.tns_data.specs.Tns.{weightingRow, readIndices, readFilter, readTns};
+ghost use Rattle.sending.specs.Private.{Ready, sentAll, laidAll};
+ghost use Rattle.tns_data.specs.Sent.{tnsPasses, sentTns, tnsOf as Sent·tnsOf};
 ghost use Rattle.tns_data.specs.Private.{tnsOf, told, filterOf, laid, indicesLaid};
 use buffer_reader::Cursor;
 use coding::Met;
 use coding::inner::SymbolMet;
 use range_decoder::DecoderState;
+use range_encoder::EncoderState;
 
 // The two orders, with the state and the cursor behind them.
 pub enum TnsRead {
@@ -144,4 +147,47 @@ pub fn read_tns(
         }
         FilterRead::Refused(e) => TnsRead::Refused(e),
     }
+}
+
+// Whether the writer takes both filters beside their flags.
+pub fn tns_passes(
+    first_flag: u32,
+    second_flag: u32,
+    first_order: usize,
+    second_order: usize,
+    indices: [usize; 16],
+) -> bool
+    requires { ⌜ length indices ≡ 16 ⌝ }
+    ensures { λ r. ⌜ r ≡ tnsPasses «first_flag» «second_flag» «first_order» «second_order» indices ⌝ }
+{
+    crate::send::tns_passes(first_flag, second_flag, first_order, second_order, indices)
+}
+
+// The symbols of both filters sent, or counted alone.
+pub fn send_tns(
+    buf: &mut [u8],
+    st: EncoderState,
+    writing: bool,
+    orders: &[u16],
+    coefficients: &[u16],
+    weighting: usize,
+    first_order: usize,
+    second_order: usize,
+    indices: [usize; 16],
+) -> EncoderState
+    requires { ⌜ (partPasses 2 8 (now orders) ≡ true) × (partPasses 8 17 (now coefficients) ≡ true) × (weighting ≤ 1) × («first_order» ≤ 8) × («second_order» ≤ 8) × (length indices ≡ 16) × (Ready writing st (length (now buf)) (sentTns (now orders) (now coefficients) weighting (Sent·tnsOf «first_order» «second_order» indices))) ⌝ }
+    ensures state { λ r. ⌜ r ≡ sentAll writing st (sentTns (now (orders .entry)) (now (coefficients .entry)) weighting (Sent·tnsOf «first_order» «second_order» indices)) ⌝ }
+    ensures lent { λ _. ⌜ now (buf .exit) ≡ laidAll writing st (now (buf .entry)) (sentTns (now (orders .entry)) (now (coefficients .entry)) weighting (Sent·tnsOf «first_order» «second_order» indices)) ⌝ }
+{
+    crate::send::send_tns(
+        buf,
+        st,
+        writing,
+        orders,
+        coefficients,
+        weighting,
+        first_order,
+        second_order,
+        indices,
+    )
 }

@@ -5,7 +5,7 @@ use mathlib.Core.Path.{_≡_, refl, sym, _∙_}
 use native.Mathlib.Omega.{arith}
 use lib.ListN.{length, drop, length-set}
 use lib.Seq.{sets}
-use Rattle.host.proofs.Laid.{sets-past, sets-turn, sets-end}
+use Rattle.common.proofs.Laid.{sets-past, sets-turn, sets-end}
 use Rattle.host.proofs.copies.put_bytes.Statement.{statement}
 use Rattle.host.proofs.copies.put_bytes.Tie as tie
 

@@ -1,0 +1,61 @@
+-- What is left of the word, over the buffer as it is now, makes what the whole asks.
+-- Assumes nothing.
+use Prim.Native.Nat.{_+_, _-_, _≤_}
+use mathlib.Core.Path.{_≡_, refl, _∙_}
+use native.Mathlib.Omega.{arith}
+use borrow.Author.Needs.{needs}
+use lib.ListN.{length, drop, drop-of-length-le}
+use Rattle.frame_text.specs.Private.{Left}
+use Rattle.frame_text.proofs.Laid.{left-start, left-turn, left-end, next-one}
+use Rattle.frame_text.proofs.put.word.Statement.{statement}
+use Rattle.frame_text.proofs.put.word.Tie as tie
+
+abbrev Inv-loop : tie.InvT-loop
+Inv-loop out₀ at letters next₀ i₀ out next i =
+    (i ≤ length letters) × (next ≤ at + i) × (length out ≡ length out₀) × Left out next (drop i letters) out₀ at letters
+
+abbrev μ-loop : tie.MeasureT-loop
+μ-loop out₀ at letters next₀ i₀ out next i = length letters - i
+
+loop-holds : tie.Need-loop-holds Inv-loop μ-loop
+loop-holds c = (omega arith, omega arith, refl, left-start)
+
+shared-slice-read-byte : tie.Need-shared-slice-read-byte Inv-loop μ-loop
+shared-slice-read-byte c = omega arith
+
+byte-requires : tie.Need-byte-requires Inv-loop μ-loop
+byte-requires c κs = omega arith
+
+add-i : tie.Need-add-i Inv-loop μ-loop
+add-i c = omega arith
+
+loop-less : tie.Need-loop-less Inv-loop μ-loop
+loop-less c = omega arith
+
+loop-again : tie.Need-loop-again Inv-loop μ-loop
+loop-again c =
+    let at = c .before .before .before .before .before in
+    let letters = at .before .before .before .before .args .letters .now in
+    (omega arith, omega arith, c .before .before .byte .kept .0 ∙ at .before .loop .inv .2, left-turn (next-one letters (at .before .loop .i) (omega arith)) (c .before .before .byte .ensures .0) (at .before .loop .inv .3))
+
+same-length : tie.Need-same-length Inv-loop μ-loop
+same-length c = search needs
+
+returns : tie.Need-returns Inv-loop μ-loop
+returns c =
+    (left-end (drop-of-length-le (c .before .before .before .before .args .letters .now) (c .loop-test .left)) (c .before .loop .inv .3), omega arith)
+
+pub word-spec : {M : Type 1} → statement M
+word-spec =
+    tie.close
+    (tie.spec
+    Inv-loop
+    μ-loop
+    loop-holds
+    shared-slice-read-byte
+    byte-requires
+    add-i
+    loop-less
+    loop-again
+    same-length
+    returns)

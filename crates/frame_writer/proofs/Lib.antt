@@ -1,0 +1,13 @@
+pub mod Fields
+pub mod Frames
+pub mod Values
+pub mod Streams
+pub mod Lines
+pub mod Fills
+pub mod Answers
+pub mod Owners
+pub mod Sides
+pub mod Reread
+pub mod Takes
+pub mod Earlies
+pub mod Unique

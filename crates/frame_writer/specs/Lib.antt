@@ -1,0 +1,5 @@
+pub mod Frame
+pub mod Returned
+pub mod Whose
+pub mod Private
+pub mod Taken

@@ -1,0 +1,5 @@
+pub mod Answers
+pub mod Theorems
+pub mod Unique
+pub mod Words
+pub mod Fields

@@ -1,0 +1,5 @@
+pub mod Tagged
+pub mod Contents
+pub mod Walk
+pub mod Stated
+pub mod Writer

@@ -1,0 +1,5 @@
+# `end` counts accepted frames alone
+/^== / { accepted = 0 }
+/^frame [0-9]+ bytes / { accepted++ }
+/^end / { $2 = accepted }
+{ print }

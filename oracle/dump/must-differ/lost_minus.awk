@@ -1,0 +1,3 @@
+# negative lines lose their minus
+/^lines / { gsub(/:-/, ":") }
+{ print }

@@ -1,0 +1,3 @@
+# `stop` has the offset of the field's content
+/^stop 18 / { $3 += 3 }
+{ print }

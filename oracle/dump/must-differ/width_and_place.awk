@@ -1,0 +1,3 @@
+# refusal 9 has its width behind the bit index
+/ refused 9 / { width = $5; $5 = $6; $6 = width }
+{ print }
