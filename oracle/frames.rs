@@ -5,6 +5,7 @@
 #[allow(dead_code)]
 mod frames {
     pub mod answers;
+    pub mod flat;
     pub mod make;
     pub mod port;
     pub mod recorded;
@@ -24,7 +25,7 @@ use frames::answers::{Answer, Case, Read};
 use frames::make::Maker;
 use frames::recorded::Recordings;
 use frames::tally::Tally;
-use frames::{port, rust, sets};
+use frames::{flat, port, rust, sets};
 // the six files name these from the crate's root
 #[allow(unused_imports)]
 use lc3::{common, encoder, tables};
@@ -42,7 +43,10 @@ fn main() {
     let recordings = folder.map(|folder| Recordings::of(folder).unwrap_or_else(|why| stop(&why)));
     let mut tally = Tally::new(recordings.is_some());
     port::limits(&mut tally).unwrap_or_else(|why| stop(&why));
+    flat::all(seed, &mut tally).unwrap_or_else(|why| stop(&why));
     port::hand(&mut tally).unwrap_or_else(|why| stop(&why));
+    let set = recordings.as_ref().map_or(&tables::FLAT, |all| &all.set);
+    port::tables(set, &mut tally).unwrap_or_else(|why| stop(&why));
     let mut maker = Maker::new(seed, recordings);
     for at in 0..count {
         let case = maker.case(at);

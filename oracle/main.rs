@@ -1,8 +1,7 @@
 // The comparison program: makes cases, runs the Rust of lc3-codec on them and writes each case with the Rust's answer.
 //   oracle MODULE SEED COUNT   the systematic cases and COUNT random ones, made from SEED
 //   oracle MODULE --sample     a small fixed set, the same on every machine
-//   oracle recording FILE...   every frame of the recordings, as the Rust reads it, and written back as it was; and
-//                              their table sets, whole and damaged
+//   oracle recording FILE...   every frame of the recordings, as the Rust reads it, and written back as it was
 
 mod cases {
     pub mod buffer_reader;
@@ -17,7 +16,6 @@ mod cases {
     pub mod rows;
     pub mod side_info;
     pub mod spectral_quantization;
-    pub mod tables;
 }
 mod lc3;
 mod records;

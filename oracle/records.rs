@@ -6,14 +6,40 @@ use std::io::{BufWriter, Stdout, Write};
 use std::panic::{catch_unwind, set_hook, take_hook, AssertUnwindSafe};
 use std::sync::atomic::{AtomicBool, Ordering};
 
-// First byte of an answer that is no refusal.
-pub const ACCEPTED: u8 = 0;
+// First number of an answer that is no refusal.
+const ACCEPTED: usize = 0;
+// the most numbers that a call or an answer has
+const NUMBERS: usize = 24;
+
+// Numbers, and the bytes that a call leaves where it writes.
+pub struct Answer {
+    pub numbers: Vec<usize>,
+    pub left: Vec<u8>,
+}
+
+impl Answer {
+    // The refusal's number; None where it is none.
+    pub fn refusal(&self) -> Option<usize> {
+        Some(self.numbers[0]).filter(|number| *number != ACCEPTED)
+    }
+}
+
+fn answer(number: usize, values: &[usize], left: &[u8]) -> Answer {
+    Answer { numbers: [&[number], values].concat(), left: left.to_vec() }
+}
 
 // The answer of a refusal: its number and its values.
-pub fn refused(number: u8, values: &[usize]) -> Vec<u8> {
-    let mut answer = vec![number];
-    values.iter().for_each(|v| answer.extend((*v as u64).to_be_bytes()));
-    answer
+pub fn refused(number: usize, values: &[usize]) -> Answer {
+    answer(number, values, &[])
+}
+
+pub fn accepted(values: &[usize]) -> Answer {
+    answer(ACCEPTED, values, &[])
+}
+
+// With the bytes that the call leaves.
+pub fn written(values: &[usize], left: &[u8]) -> Answer {
+    answer(ACCEPTED, values, left)
 }
 
 // Splitmix64: the same numbers from a seed on every machine.
@@ -71,44 +97,69 @@ impl<K: Ord, C> OneOfEach<K, C> {
     }
 }
 
-// Writes records to standard output: kind, case length, answer length (two bytes each), case, answer; all big-endian.
+// Writes records to standard output: a kind, how many numbers the call has, how many the answer, and 0, a byte each; how many
+// bytes the call has and how many it leaves, two bytes each; the call's numbers, eight bytes each, and its bytes; the answer's.
+// All are big-endian. A record of kind 0 has bytes alone, which are lent to the calls behind it.
 pub struct Records {
     out: BufWriter<Stdout>,
-    counts: BTreeMap<u8, usize>,
+    lent: Option<Vec<u8>>,
+    counts: BTreeMap<usize, usize>,
     panics: usize,
 }
 
 impl Records {
     pub fn to_stdout() -> Self {
-        Records { out: BufWriter::with_capacity(1 << 16, std::io::stdout()), counts: BTreeMap::new(), panics: 0 }
+        let out = BufWriter::with_capacity(1 << 16, std::io::stdout());
+        Records { out, lent: None, counts: BTreeMap::new(), panics: 0 }
     }
 
-    pub fn put(&mut self, kind: u8, case: &[u8], answer: &[u8]) {
-        assert!(case.len() + answer.len() <= 60_000, "a record is too long");
-        *self.counts.entry(answer[0]).or_insert(0) += 1;
-        let mut head = vec![kind];
-        head.extend((case.len() as u16).to_be_bytes());
-        head.extend((answer.len() as u16).to_be_bytes());
-        for part in [&head[..], case, answer] {
-            self.out.write_all(part).unwrap_or_else(|e| stop(&format!("cannot write: {}", e)));
+    fn write(&mut self, kind: u8, (numbers, bytes): (&[usize], &[u8]), answer: &Answer) {
+        assert!(numbers.len() <= NUMBERS && answer.numbers.len() <= NUMBERS, "a record has too many numbers");
+        assert!(bytes.len() + answer.left.len() <= 60_000, "a record is too long");
+        let mut record = vec![kind, numbers.len() as u8, answer.numbers.len() as u8, 0];
+        record.extend((bytes.len() as u16).to_be_bytes());
+        record.extend((answer.left.len() as u16).to_be_bytes());
+        numbers.iter().for_each(|n| record.extend((*n as u64).to_be_bytes()));
+        record.extend(bytes);
+        answer.numbers.iter().for_each(|n| record.extend((*n as u64).to_be_bytes()));
+        record.extend(&answer.left);
+        self.out.write_all(&record).unwrap_or_else(|e| stop(&format!("cannot write: {}", e)));
+    }
+
+    // What the calls from here on are lent; it is no case.
+    pub fn lend(&mut self, bytes: &[u8]) {
+        if self.lent.as_deref() != Some(bytes) {
+            self.lent = Some(bytes.to_vec());
+            self.write(0, (&[], bytes), &Answer { numbers: Vec::new(), left: Vec::new() });
         }
     }
 
-    // A case with what the Rust says of it. `panics` is the rule: the refusal that document 01 gives where the Rust has
+    pub fn put(&mut self, kind: u8, call: (&[usize], &[u8]), answer: &Answer) {
+        *self.counts.entry(answer.numbers[0]).or_insert(0) += 1;
+        self.write(kind, call, answer);
+    }
+
+    // A call with what the Rust says of it. `panics` is the rule: the refusal that document 01 gives where the Rust has
     // none and panics. That refusal is then the answer. A panic elsewhere, or none there, ends the run.
-    pub fn put_said(&mut self, kind: u8, case: &[u8], panics: Option<Vec<u8>>, said: impl FnOnce() -> Vec<u8>) {
+    pub fn put_said(
+        &mut self,
+        kind: u8,
+        call: (&[usize], &[u8]),
+        panics: Option<Answer>,
+        said: impl FnOnce() -> Answer,
+    ) {
         let said = caught(said);
         let answer = match (FAULT.with(Cell::take), said, panics) {
-            (Some(what), ..) => wrong(kind, case, what),
+            (Some(what), ..) => wrong(kind, call, what),
             (None, Some(answer), None) => answer,
             (None, None, Some(refusal)) => {
                 self.panics += 1;
                 refusal
             }
-            (None, None, None) => wrong(kind, case, "the Rust panics, and no rule says that it does"),
-            (None, Some(_), Some(_)) => wrong(kind, case, "the Rust returns where the rule says that it panics"),
+            (None, None, None) => wrong(kind, call, "the Rust panics, and no rule says that it does"),
+            (None, Some(_), Some(_)) => wrong(kind, call, "the Rust returns where the rule says that it panics"),
         };
-        self.put(kind, case, &answer);
+        self.put(kind, call, &answer);
     }
 
     // Says on standard error how many records were written, by answer.
@@ -133,9 +184,9 @@ pub fn stop(why: &str) -> ! {
     std::process::exit(1)
 }
 
-fn wrong(kind: u8, case: &[u8], what: &str) -> ! {
-    let hex: String = case.iter().map(|byte| format!("{:02x}", byte)).collect();
-    stop(&format!("{}: kind {} case {}", what, kind, hex))
+fn wrong(kind: u8, (numbers, bytes): (&[usize], &[u8]), what: &str) -> ! {
+    let hex: String = bytes.iter().map(|byte| format!("{:02x}", byte)).collect();
+    stop(&format!("{}: kind {} call {:?} {}", what, kind, numbers, hex))
 }
 
 thread_local! {

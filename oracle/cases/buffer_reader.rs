@@ -2,7 +2,7 @@
 // The limits below only aim the cases; every answer is the Rust's, but where it panics.
 
 use crate::lc3::decoder::buffer_reader::{BufferReader, BufferReaderError};
-use crate::records::{hold, refused, OneOfEach, Records, Rng, ACCEPTED};
+use crate::records::{accepted, hold, refused, Answer, OneOfEach, Records, Rng};
 
 const WIDTHS: [usize; 11] = [1, 2, 3, 4, 5, 6, 7, 8, 9, 24, 25];
 // the largest cursor that is compared
@@ -54,22 +54,17 @@ impl Case {
             Op::Bits(n) => (3, n),
             Op::Bit => (4, 0),
         };
-        let mut case = Vec::new();
-        for number in [self.head, self.tail, width] {
-            case.extend((number as u64).to_be_bytes());
-        }
-        case.extend(&self.buf);
-        out.put_said(kind, &case, self.panics(), || self.answer());
+        out.put_said(kind, (&[self.head, self.tail, width], &self.buf), self.panics(), || self.answer());
     }
 
     // The Rust's own test lets one bit through whose byte is not in the buffer; document 01 refuses it.
-    fn panics(&self) -> Option<Vec<u8>> {
+    fn panics(&self) -> Option<Answer> {
         let (len, byte) = (self.buf.len(), self.tail / 8);
         let is_bit = matches!(self.op, Op::Bit);
         (is_bit && self.head + byte <= len + 2 && byte >= len).then(|| refused(9, &[1, self.tail % 8]))
     }
 
-    fn answer(&self) -> Vec<u8> {
+    fn answer(&self) -> Answer {
         let buf = &self.buf[..];
         let mut reader = reader_at((self.head, self.tail));
         let value = match self.op {
@@ -81,13 +76,7 @@ impl Case {
         let (head, tail) = cursors(&reader);
         hold(value.is_ok() || (head, tail) == (self.head, self.tail), "a refused read moves a cursor");
         match value {
-            Ok(v) => {
-                let mut answer = vec![ACCEPTED];
-                answer.extend(v.to_be_bytes());
-                answer.extend((head as u64).to_be_bytes());
-                answer.extend((tail as u64).to_be_bytes());
-                answer
-            }
+            Ok(v) => accepted(&[head, tail, v as usize]),
             Err(BufferReaderError::ReadByteOutOfBounds(h)) => refused(10, &[h]),
             Err(BufferReaderError::ReadU24OutOfBounds(h)) => refused(10, &[h]),
             Err(BufferReaderError::BigEndianBitReaderReadUsizeNumBitsOutOfRange(n, b)) => refused(9, &[n, b]),

@@ -2,7 +2,7 @@
 // The limits below only aim the cases; every answer is the Rust's, but where it panics.
 
 use crate::lc3::encoder::buffer_writer::{door, BufferWriter};
-use crate::records::{refused, OneOfEach, Records, Rng, ACCEPTED};
+use crate::records::{self, refused, Answer, OneOfEach, Records, Rng};
 
 const WIDTHS: [usize; 11] = [1, 2, 3, 4, 5, 6, 7, 8, 9, 24, 25];
 // the largest cursor that is compared
@@ -19,15 +19,10 @@ pub fn writer_at(len: usize, (head, tail): (usize, usize)) -> BufferWriter {
 }
 
 // The answer of a write that the Rust did: where its writer stands, and the buffer's bytes.
-pub fn written(writer: &BufferWriter, buf: &[u8]) -> Vec<u8> {
+pub fn written(writer: &BufferWriter, buf: &[u8]) -> Answer {
     let (byte, mask) = door::tail(writer);
     let tail_bytes = (buf.len() as u16).wrapping_sub(1).wrapping_sub(byte);
-    let tail = 8 * tail_bytes as u64 + mask.trailing_zeros() as u64;
-    let mut answer = vec![ACCEPTED];
-    answer.extend((writer.bp as u64).to_be_bytes());
-    answer.extend(tail.to_be_bytes());
-    answer.extend(buf);
-    answer
+    records::written(&[writer.bp, 8 * tail_bytes as usize + mask.trailing_zeros() as usize], buf)
 }
 
 #[derive(Clone, Copy)]
@@ -49,10 +44,10 @@ impl Op {
     // The number of its kind, and its width as a case has it.
     fn kind(self) -> (u8, usize) {
         match self {
-            Op::Field(n) => (5, n),
-            Op::Bit => (6, 0),
-            Op::Byte => (7, 0),
-            Op::Top(n) => (8, n),
+            Op::Field(n) => (17, n),
+            Op::Bit => (18, 0),
+            Op::Byte => (19, 0),
+            Op::Top(n) => (20, n),
         }
     }
 
@@ -92,16 +87,12 @@ impl Case {
 
     fn put(&self, out: &mut Records) {
         let (kind, width) = self.op.kind();
-        let mut case = Vec::new();
-        for number in [self.head, self.tail, width, self.value as usize] {
-            case.extend((number as u64).to_be_bytes());
-        }
-        case.extend(&self.buf);
-        out.put_said(kind, &case, self.panics(), || self.answer());
+        let numbers = [self.head, self.tail, width, self.value as usize];
+        out.put_said(kind, (&numbers, &self.buf), self.panics(), || self.answer());
     }
 
     // The Rust panics at every write that has no room.
-    fn panics(&self) -> Option<Vec<u8>> {
+    fn panics(&self) -> Option<Answer> {
         let len = self.buf.len();
         match self.op.tail_bits() {
             Some(n) => (self.tail + n > 8 * len).then(|| refused(9, &[n, self.tail % 8])),
@@ -109,7 +100,7 @@ impl Case {
         }
     }
 
-    fn answer(&self) -> Vec<u8> {
+    fn answer(&self) -> Answer {
         let mut buf = self.buf.clone();
         let mut writer = writer_at(buf.len(), (self.head, self.tail));
         match self.op {

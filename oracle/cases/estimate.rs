@@ -6,20 +6,15 @@
 use super::recording::field;
 use super::rows;
 use super::side_info::Config;
-use super::tables as stored;
 use crate::lc3::encoder::spectral_quantization::door::{self, Estimate};
-use crate::records::{returned, search, stop, Records, Rng, ACCEPTED};
+use crate::records::{accepted, returned, search, stop, Records, Rng};
 use crate::tables::{self, Set, FLAT, WIDE};
 
+// the bytes of the five tables
+const SIZES: [usize; 5] = [4096, 2 * 64 * WIDE, 2 * 64 * WIDE, 2 * 2 * tables::ORDERS, 2 * 8 * WIDE];
 // costs are in 2,048ths of a bit
 const UNIT: u64 = 2048;
 const COMPARED: u64 = 16_777_216;
-// what vectors sets aside for an answer, and what one estimate takes of it
-const ROOM: usize = 8192;
-const NUMBERS: usize = 8 * 7;
-// what a record may have, and what a table set takes of it
-const RECORD: usize = 60_000;
-const TABLES: usize = 10 + 4096 + 2 * (2 * 64 * WIDE + 2 * tables::ORDERS + 8 * WIDE);
 
 struct Frame {
     of: Config,
@@ -114,30 +109,31 @@ fn with_ceilings(frame: &Frame, sums: &[u64], target: usize, nbits_lsb: usize) -
 
 // ---- records
 
-fn stored_set(set: &Set) -> stored::Set {
+// The tables as they are lent, one behind the other.
+fn lent(set: &Set) -> Vec<u8> {
     let words = |all: &mut dyn Iterator<Item = u16>| all.flat_map(u16::to_be_bytes).collect();
-    [
+    let tables: [Vec<u8>; 5] = [
         set.lookup.to_vec(),
         words(&mut set.spectral.iter().flatten().map(|n| *n as u16)),
         words(&mut set.bits.iter().flatten().copied()),
         words(&mut set.order.iter().flatten().map(|n| *n as u16)),
         words(&mut set.coef.iter().flatten().map(|n| *n as u16)),
-    ]
+    ];
+    tables.concat()
 }
 
-// Estimates by one set on their way into a record.
+// Estimates by one set.
 struct Estimates<'a> {
     set: &'a Set,
-    list: Vec<u8>,
-    answer: Vec<u8>,
     seen: &'a mut Seen,
 }
 
 impl<'a> Estimates<'a> {
-    fn by(set: &'a Set, seen: &'a mut Seen) -> Self {
+    fn by(out: &mut Records, set: &'a Set, seen: &'a mut Seen) -> Self {
         tables::lend(set);
+        out.lend(&lent(set));
         seen.turns += 1;
-        Estimates { set, list: Vec::new(), answer: Vec::new(), seen }
+        Estimates { set, seen }
     }
 
     fn push(&mut self, out: &mut Records, frame: &Frame, target: usize) {
@@ -155,22 +151,10 @@ impl<'a> Estimates<'a> {
             stop(&format!("the estimate is {:?}, by its sums {:?}: {:?}", rust, exact, frame.lines));
         }
         self.saw(frame, &b, sum);
-        self.list.extend([fs_ind as u8, duration as u8]);
-        for number in [frame.bytes, target, frame.lines.len()] {
-            self.list.extend((number as u16).to_be_bytes());
-        }
-        frame.lines.iter().for_each(|line| self.list.extend(line.to_be_bytes()));
+        let bytes: Vec<u8> = frame.lines.iter().flat_map(|line| line.to_be_bytes()).collect();
         let [lastnz_trunc, nbits_est, nbits_trunc] = exact;
-        let flags = [b.rate_flag, b.mode_flag as usize];
-        for number in flags.into_iter().chain([b.lastnz, lastnz_trunc, nbits_est, nbits_trunc, b.nbits_lsb]) {
-            self.answer.extend((number as u64).to_be_bytes());
-        }
-        // so that there is room for one more, as long as it may be
-        let longest = 8 + 2 * 400 + NUMBERS;
-        let is_full = TABLES + self.list.len() + 1 + self.answer.len() + longest > RECORD;
-        if is_full || 1 + self.answer.len() + NUMBERS > ROOM {
-            self.put(out);
-        }
+        let answer = [b.rate_flag, b.mode_flag as usize, b.lastnz, lastnz_trunc, nbits_est, nbits_trunc, b.nbits_lsb];
+        out.put(83, (&[frame.bytes, target, fs_ind, duration], &bytes), &accepted(&answer));
     }
 
     fn saw(&mut self, frame: &Frame, b: &Estimate, sum: u64) {
@@ -189,17 +173,6 @@ impl<'a> Estimates<'a> {
                 seen.first_parted = Some((sum, rust, exact));
             }
         }
-    }
-
-    fn put(&mut self, out: &mut Records) {
-        if self.list.is_empty() {
-            return;
-        }
-        let mut case = stored::in_case(&stored_set(self.set));
-        case.append(&mut self.list);
-        let mut answer = vec![ACCEPTED];
-        answer.append(&mut self.answer);
-        out.put(18, &case, &answer);
     }
 
     // A frame at targets at each side of what some of its pairs come to, at the ends, and at any.
@@ -264,8 +237,8 @@ fn standard() -> Option<Set> {
         tables.push(table.to_vec());
         at += 3 + table.len();
     }
-    let all: stored::Set = tables.try_into().ok()?;
-    stored::has_sizes(&all).then_some(())?;
+    let all: [Vec<u8>; 5] = tables.try_into().ok()?;
+    all.iter().map(Vec::len).eq(SIZES).then_some(())?;
     let word = |part: usize, at: usize| u16::from_be_bytes([all[part][2 * at], all[part][2 * at + 1]]);
     Some(Set {
         lookup: std::array::from_fn(|i| all[0][i]),
@@ -393,18 +366,17 @@ fn with_sum(rng: &mut Rng, sum: u64) -> Option<(Set, Frame)> {
 
 fn put_largest(out: &mut Records, seen: &mut Seen, rng: &mut Rng, sum: u64) {
     let (set, frame) = search("a frame with a sum", || with_sum(rng, sum));
-    let mut estimates = Estimates::by(&set, seen);
+    let mut estimates = Estimates::by(out, &set, seen);
     for target in [8191, 8192, 8193, 65_535] {
         estimates.push(out, &frame, target);
     }
-    estimates.put(out);
 }
 
 // ---- runs
 
 // Every configuration, at each side of both flags, with lines of every kind.
 fn systematic(out: &mut Records, rng: &mut Rng, set: &Set, seen: &mut Seen) {
-    let mut estimates = Estimates::by(set, seen);
+    let mut estimates = Estimates::by(out, set, seen);
     for of in Config::all() {
         for bytes in lengths(of.fs_ind) {
             for kind in KINDS {
@@ -413,7 +385,6 @@ fn systematic(out: &mut Records, rng: &mut Rng, set: &Set, seen: &mut Seen) {
             }
         }
     }
-    estimates.put(out);
 }
 
 // About so many random estimates, beside the systematic ones.
@@ -440,12 +411,11 @@ pub fn run(out: &mut Records, rng: &mut Rng, count: usize) -> Seen {
             0 => sets[i / 4 % own].clone(),
             _ => random_set(rng),
         };
-        let mut estimates = Estimates::by(&set, &mut seen);
+        let mut estimates = Estimates::by(out, &set, &mut seen);
         for _ in 0..12 {
             let frame = random_frame(rng);
             estimates.push_targets(out, rng, &frame, 2);
         }
-        estimates.put(out);
     }
     tables::lend(&FLAT);
     seen
@@ -457,13 +427,12 @@ pub fn sample(out: &mut Records, rng: &mut Rng) -> Seen {
     let mut seen = Seen::default();
     let (whole, any) = (some_bits(rng, 1), some_bits(rng, 0));
     for set in [FLAT, some_set(rng, whole), some_set(rng, any)] {
-        let mut estimates = Estimates::by(&set, &mut seen);
+        let mut estimates = Estimates::by(out, &set, &mut seen);
         for (i, kind) in KINDS.into_iter().enumerate() {
             let of = Config { fs_ind: i / 6, duration: i % 2 };
             let frame = Frame { of, bytes: lengths(of.fs_ind)[i % 6], lines: lines(rng, kind, of.ne()) };
             estimates.push_targets(out, rng, &frame, 0);
         }
-        estimates.put(out);
     }
     for sum in [COMPARED, COMPARED + 1, COMPARED + 300_000] {
         put_largest(out, &mut seen, rng, sum);

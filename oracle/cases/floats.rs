@@ -31,10 +31,6 @@ pub fn between(rng: &mut Rng, low: f32, high: f32) -> f32 {
     low + (high - low) * ((rng.next() >> 40) as f32 / 16_777_216.0)
 }
 
-pub fn put(case: &mut Vec<u8>, x: f32) {
-    case.extend(x.to_bits().to_be_bytes());
-}
-
 // The place of a number in their order; the number at a place. Beside 0 stands -0, and past either infinity stand NaNs.
 pub fn place(x: f32) -> u32 {
     let bits = x.to_bits();

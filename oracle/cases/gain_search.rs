@@ -4,12 +4,10 @@
 use super::floats;
 use super::quantiser::own_offsets;
 use crate::lc3::encoder::spectral_quantization::door;
-use crate::records::{returned, Records, Rng, ACCEPTED};
+use crate::records::{accepted, returned, Records, Rng};
 
 // the most energies that a frame has
 const ENERGIES: usize = 100;
-// the most searches of one record
-const SEARCHES: usize = 500;
 // the targets of the source are 16-bit numbers
 const TARGETS: usize = 65_536;
 
@@ -45,21 +43,15 @@ fn search(energies: &[f32], (offset, target): (i16, usize)) -> i16 {
 }
 
 fn put(out: &mut Records, seen: &mut Seen, energies: &[f32], list: &[(i16, usize)]) {
-    for part in list.chunks(SEARCHES) {
-        let mut case = vec![energies.len() as u8];
-        energies.iter().for_each(|e| floats::put(&mut case, *e));
-        let mut answer = vec![ACCEPTED];
-        for (offset, target) in part {
-            case.extend(offset.to_be_bytes());
-            case.extend((*target as u16).to_be_bytes());
-            let index = search(energies, (*offset, *target));
-            seen.indices[index as usize] += 1;
-            answer.extend(index.to_be_bytes());
-        }
-        seen.searches += part.len();
-        seen.lengths[energies.len()] += 1;
-        out.put(17, &case, &answer);
+    let bytes: Vec<u8> = energies.iter().flat_map(|e| e.to_bits().to_be_bytes()).collect();
+    out.lend(&bytes);
+    for (offset, target) in list {
+        let index = search(energies, (*offset, *target)) as usize;
+        seen.indices[index] += 1;
+        out.put(82, (&[*offset as u16 as usize, *target], &[]), &accepted(&[index]));
     }
+    seen.searches += list.len();
+    seen.lengths[energies.len()] += 1;
 }
 
 // ---- what a search is made of

@@ -5,10 +5,7 @@
 use super::floats;
 use crate::lc3::encoder::spectral_quantization::door;
 use crate::lc3::num_traits::with_power;
-use crate::records::{returned, Records, Rng, ACCEPTED};
-
-// the lines of one record
-const LINES: usize = 100;
+use crate::records::{accepted, returned, Records, Rng};
 
 // The index and the offset give 10 to the 28th part of their sum: below these ends it is 0, above them infinite.
 const SUMS: std::ops::RangeInclusive<i16> = -1300..=1100;
@@ -38,37 +35,20 @@ impl Seen {
     }
 }
 
-// Lines on their way into a record.
 #[derive(Default)]
 struct Lines {
-    case: Vec<u8>,
-    answer: Vec<u8>,
     seen: Seen,
 }
 
 impl Lines {
+    // A line is told by its sign and its magnitude.
     fn push(&mut self, out: &mut Records, x: f32, gain: f32, line: i16) {
-        floats::put(&mut self.case, x);
-        floats::put(&mut self.case, gain);
-        self.answer.extend(line.to_be_bytes());
+        let numbers = [x, gain].map(|n| n.to_bits() as usize);
+        out.put(81, (&numbers, &[]), &accepted(&[(line < 0) as usize, line.unsigned_abs() as usize]));
         self.seen.lowest += (line == i16::MIN) as usize;
         self.seen.highest += (line == i16::MAX) as usize;
         self.seen.zero += (line == 0) as usize;
         self.seen.nan += (x.is_nan() || gain.is_nan()) as usize;
-        if self.answer.len() == 2 * LINES {
-            self.put(out);
-        }
-    }
-
-    // What stands here becomes a record.
-    fn put(&mut self, out: &mut Records) {
-        if self.answer.is_empty() {
-            return;
-        }
-        let mut answer = vec![ACCEPTED];
-        answer.append(&mut self.answer);
-        out.put(16, &self.case, &answer);
-        self.case.clear();
     }
 
     // Lines at the gain that the Rust makes of an index and an offset.
@@ -200,7 +180,6 @@ pub fn run(out: &mut Records, rng: &mut Rng, count: usize) -> Seen {
     for _ in 0..count / 8 {
         random(&mut lines, rng, out);
     }
-    lines.put(out);
     lines.seen
 }
 
@@ -222,6 +201,5 @@ pub fn sample(out: &mut Records, rng: &mut Rng) -> Seen {
     for _ in 0..60 {
         random(&mut lines, rng, out);
     }
-    lines.put(out);
     lines.seen
 }

@@ -4,12 +4,12 @@
 use super::buffer_reader::{cursors, reader_at};
 use super::rows::{self, Row, TOTAL};
 use crate::lc3::decoder::arithmetic_codec::{door, ArithmeticCodecError};
-use crate::lc3::decoder::buffer_reader::BufferReaderError;
-use crate::records::{hold, refused, search, OneOfEach, Records, Rng, ACCEPTED};
+use crate::lc3::decoder::buffer_reader::{BufferReader, BufferReaderError};
+use crate::records::{accepted, hold, refused, search, Answer, OneOfEach, Records, Rng};
 
 // the largest cursor that is compared
 const FAR: usize = 65_535;
-// the longest chain; its answer has to fit into what vectors sets aside for one
+// the longest chain
 const CHAIN: usize = 100;
 // Of so many random cases one is a chain, one a start, and the others single steps.
 const CHAINS: usize = 10;
@@ -20,13 +20,12 @@ const RANGES: [u32; 18] = [
     0x7fffff, 0x800000, 0xfffbff, 0xfffc00, 0xfffffe, 0xffffff,
 ];
 
-fn put_cursors(to: &mut Vec<u8>, (head, tail): (usize, usize)) {
-    for cursor in [head, tail] {
-        to.extend((cursor as u64).to_be_bytes());
-    }
+// As a call and an answer have them.
+fn numbers((head, tail): (usize, usize), (low, range): door::State) -> [usize; 4] {
+    [head, tail, low as usize, range as usize]
 }
 
-fn refusal(error: ArithmeticCodecError) -> Vec<u8> {
+fn refusal(error: ArithmeticCodecError) -> Answer {
     match error {
         ArithmeticCodecError::AcRangeFlOutOfRange(low, limit) => refused(11, &[low as usize, limit as usize]),
         ArithmeticCodecError::BufferReader(BufferReaderError::ReadByteOutOfBounds(h)) => refused(10, &[h]),
@@ -36,26 +35,15 @@ fn refusal(error: ArithmeticCodecError) -> Vec<u8> {
 }
 
 fn put_start(out: &mut Records, at: (usize, usize), buf: &[u8]) {
-    let mut case = Vec::new();
-    put_cursors(&mut case, at);
-    // in place of a state
-    case.extend([0; 8]);
-    case.extend(buf);
     // the Rust has no panic here
-    out.put_said(12, &case, None, || {
+    out.put_said(49, (&[at.0, at.1], buf), None, || {
         let mut reader = reader_at(at);
         match door::start(buf, &mut reader) {
             Err(error) => {
                 hold(cursors(&reader) == at, "a refused start moves a cursor");
                 refusal(error)
             }
-            Ok((low, range)) => {
-                let mut answer = vec![ACCEPTED];
-                answer.extend(low.to_be_bytes());
-                answer.extend(range.to_be_bytes());
-                put_cursors(&mut answer, cursors(&reader));
-                answer
-            }
+            Ok(state) => accepted(&numbers(cursors(&reader), state)),
         }
     });
 }
@@ -79,55 +67,51 @@ struct Seen {
 }
 
 impl Steps {
+    // Each step is a call, from where the Rust stands behind the one before.
     fn put(&self, out: &mut Records, seen: &mut Seen) {
-        let mut case = Vec::new();
-        put_cursors(&mut case, self.at);
-        case.extend(self.state.0.to_be_bytes());
-        case.extend(self.state.1.to_be_bytes());
-        rows::put(&mut case, &self.rows);
-        // the symbols are not told
-        rows::put_list(&mut case, self.list.iter().map(|row| (*row, 0)));
-        case.extend(&self.buf);
-        // nor here
-        out.put_said(13, &case, None, || self.answer(seen));
-    }
-
-    // The answers of the steps behind one another.
-    fn answer(&self, seen: &mut Seen) -> Vec<u8> {
+        out.lend(&self.buf);
         let mut reader = reader_at(self.at);
         let mut state = self.state;
-        let mut answer = Vec::new();
+        let mut goes_on = true;
         for row in self.list.iter().map(|row| &self.rows[*row]) {
-            let before = (state, cursors(&reader));
-            let (head, tail) = before.1;
-            let result = door::symbol(&self.buf, &mut reader, &mut state, &row.cumulative, &row.frequency);
-            let bytes = cursors(&reader).0 - head;
-            match result {
-                Err(error) => {
-                    match error {
-                        ArithmeticCodecError::AcRangeFlOutOfRange(..) => {
-                            hold((state, cursors(&reader)) == before, "a step that is refused 11 alters something");
-                            seen.beyond += 1
-                        }
-                        ArithmeticCodecError::BufferReader(_) => {
-                            hold(cursors(&reader).1 == tail, "a step moves the tail");
-                            seen.short[bytes] += 1
-                        }
-                    }
-                    answer.extend(refusal(error));
-                    break;
-                }
-                Ok(symbol) => {
-                    seen.symbols[bytes] += 1;
-                    answer.push(ACCEPTED);
-                    answer.extend((symbol as u64).to_be_bytes());
-                    answer.extend(state.0.to_be_bytes());
-                    answer.extend(state.1.to_be_bytes());
-                    put_cursors(&mut answer, cursors(&reader));
-                }
+            let call = numbers(cursors(&reader), state);
+            let bytes: Vec<u8> = row.frequency.iter().flat_map(|f| f.to_be_bytes()).collect();
+            // nor here
+            out.put_said(50, (&call, &bytes), None, || {
+                let answer = self.step(row, &mut reader, &mut state, seen);
+                goes_on = answer.refusal().is_none();
+                answer
+            });
+            if !goes_on {
+                break;
             }
         }
-        answer
+    }
+
+    fn step(&self, row: &Row, reader: &mut BufferReader, state: &mut door::State, seen: &mut Seen) -> Answer {
+        let before = (*state, cursors(reader));
+        let (head, tail) = before.1;
+        let result = door::symbol(&self.buf, reader, state, &row.cumulative, &row.frequency);
+        let bytes = cursors(reader).0 - head;
+        match result {
+            Err(error) => {
+                match error {
+                    ArithmeticCodecError::AcRangeFlOutOfRange(..) => {
+                        hold((*state, cursors(reader)) == before, "a step that is refused 11 alters something");
+                        seen.beyond += 1
+                    }
+                    ArithmeticCodecError::BufferReader(_) => {
+                        hold(cursors(reader).1 == tail, "a step moves the tail");
+                        seen.short[bytes] += 1
+                    }
+                }
+                refusal(error)
+            }
+            Ok(symbol) => {
+                seen.symbols[bytes] += 1;
+                accepted(&[&numbers(cursors(reader), *state)[..], &[symbol as usize]].concat())
+            }
+        }
     }
 
     // Of a single step: whether low is at the limit or beyond it, or begins a part, or ends it, or lies within; whether the

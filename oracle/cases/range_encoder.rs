@@ -1,14 +1,13 @@
 // Cases of the range encoder: runs of symbols from its start to the finished bytes, in the crate reading as the Rust sends
-// them, in the standard reading as the Rust with the standard's one mask does; and the same lists in the standard reading,
-// which have to come back whatever stands behind their own bits. The aim below only chooses the symbols; every answer of a
-// run is the Rust's.
+// them, in the standard reading as the Rust with the standard's one mask does. The aim below only chooses the symbols; every
+// answer is the Rust's.
 
 use super::rows::{self, Row, TOTAL};
 use crate::lc3::coder::State;
 use crate::lc3::encoder::{bitstream_encoding::door, standard_encoding};
-use crate::records::{search, OneOfEach, Records, Rng, ACCEPTED};
+use crate::records::{search, written, OneOfEach, Records, Rng};
 
-// the longest list; what it gives back has to fit into what vectors sets aside for an answer
+// the longest list
 const LONGEST: usize = 500;
 // A random run holds some forty symbols, so a module's count makes fewer runs than cases.
 const RUNS: usize = 10;
@@ -89,42 +88,30 @@ impl List {
         vec![0; 2 * self.sent.len() + 4]
     }
 
-    fn in_case(&self, buf: &[u8]) -> Vec<u8> {
-        let mut case = Vec::new();
-        rows::put(&mut case, &self.rows);
-        rows::put_list(&mut case, self.sent.iter().copied());
-        case.extend(buf);
-        case
+    // As it is lent: where each symbol begins in its row, and its frequency.
+    fn lent(&self) -> Vec<u8> {
+        let part = |(row, symbol): &(usize, usize)| {
+            let row = &self.rows[*row];
+            [row.cumulative[*symbol], row.frequency[*symbol]]
+        };
+        self.sent.iter().flat_map(part).flat_map(i16::to_be_bytes).collect()
     }
 
     // The run in a reading, into `buf`. The Rust has no panic here.
     fn put_run(&self, out: &mut Records, reading: u8, buf: &[u8]) {
-        out.put_said([14, 19][reading as usize], &self.in_case(buf), None, || {
+        out.put_said(65, (&[reading as usize], buf), None, || {
             let mut bytes = buf.to_vec();
             let at = *self.states(&mut bytes).last().unwrap();
             let forecast = door::forecast(&door::coder(at));
             let end = finished_in(reading, at, &mut bytes).bp;
-            let mut answer = vec![ACCEPTED];
-            for number in [at.low, at.range, at.cache.max(0) as u32, at.carry as u32] {
-                answer.extend(number.to_be_bytes());
-            }
             let (held, bits) = ((at.cache >= 0) as usize, last_bits(reading, at, end, buf.len()));
-            for number in [held, at.carry_count as usize, at.bp, reserved(at), forecast, end, bits] {
-                answer.extend((number as u64).to_be_bytes());
-            }
-            answer.extend(bytes);
-            answer
+            let ends = [held, at.carry_count as usize, at.bp, reserved(at), forecast, end, bits];
+            let interval = [at.low, at.range, at.cache.max(0) as u32, at.carry as u32].map(|n| n as usize);
+            written(&[&ends[..], &interval].concat(), &bytes)
         });
     }
 
-    // The round trip in the standard reading: the answer is the list, and none of the Rust's.
-    fn put_back(&self, out: &mut Records, behind: &[u8]) {
-        let mut answer = vec![ACCEPTED];
-        self.sent.iter().for_each(|(_, symbol)| answer.extend((*symbol as u64).to_be_bytes()));
-        out.put(15, &self.in_case(behind), &answer);
-    }
-
-    // All three, in buffers of random bytes that are at times as short as they may be, and never `most` bytes longer.
+    // Both readings, in a buffer of random bytes that is at times as short as it may be, and never `most` bytes longer.
     fn put_all(&self, rng: &mut Rng, most: usize, out: &mut Records, seen: &mut Seen) {
         let mut bytes = self.roomy();
         let states = self.states(&mut bytes);
@@ -132,16 +119,12 @@ impl List {
         let last = *states.last().unwrap();
         let before = states.len().checked_sub(2).map_or(0, |i| shifts(states[i]) + 2);
         let least = before.max((reserved(last) + 7) / 8);
-        let mut more = || {
-            let most = [3, 3, 40, 400][rng.below(4)].min(most);
-            rng.below(most)
-        };
-        // the decoder takes three bytes, and one for each shift
-        let (run, back) = (least + more(), shifts(last) + 3 + more());
-        let before = rng.bytes(run);
+        let most = [3, 3, 40, 400][rng.below(4)].min(most);
+        let more = rng.below(most);
+        let before = rng.bytes(least + more);
+        out.lend(&self.lent());
         self.put_run(out, 0, &before);
         self.put_run(out, 1, &before);
-        self.put_back(out, &rng.bytes(back));
     }
 }
 
@@ -212,7 +195,7 @@ impl Seen {
 
     fn say(&self) {
         eprintln!(
-            "oracle range_encoder: {} lists of {} symbols, each in both readings and back; symbols that shift two bytes: {}; runs where 3 \
+            "oracle range_encoder: {} lists of {} symbols, each in both readings; symbols that shift two bytes: {}; runs where 3 \
              or more 0xFFs wait: {} (at most {}), where a carry passes through them: {}, through 3 or more: {}; that end \
              with 0xFFs waiting: {}, and send them last: {}; that end with no byte in the cache: {}; where the readings \
              part in the finish: {}",

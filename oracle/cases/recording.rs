@@ -1,9 +1,7 @@
-// Cases of recordings. Of each frame the side information, read, and what was read written back; of each file its table
-// set, and of the first file's also damaged ones.
+// Cases of recordings: of each frame the side information, read, and what was read written back.
 
-use super::side_info::{in_case, Config, Read};
-use super::tables;
-use crate::records::{self, Records, ACCEPTED};
+use super::side_info::{in_call, Config, Read};
+use crate::records::{self, written, Records};
 
 // The tag and the content of the field at the front, if all of it is there.
 pub fn field(bytes: &[u8]) -> Option<(u8, &[u8])> {
@@ -11,15 +9,9 @@ pub fn field(bytes: &[u8]) -> Option<(u8, &[u8])> {
     Some((bytes[0], bytes.get(3..3 + len)?))
 }
 
-struct Recording<'a> {
-    // each with the configuration in force
-    frames: Vec<(Config, &'a [u8])>,
-    tables: [Option<&'a [u8]>; 5],
-}
-
-// What a recording holds; or the place of a field that cannot be there.
-fn recording(bytes: &[u8]) -> Result<Recording<'_>, usize> {
-    let (mut frames, mut tables, mut of, mut at) = (Vec::new(), [None; 5], None, 0);
+// The frames of a recording, each with the configuration in force; or the place of a field that cannot be there.
+fn recording(bytes: &[u8]) -> Result<Vec<(Config, &[u8])>, usize> {
+    let (mut frames, mut tables, mut of, mut at) = (Vec::new(), [false; 5], None, 0);
     while at < bytes.len() {
         let (tag, content) = field(&bytes[at..]).ok_or(at)?;
         match (tag, content, of) {
@@ -27,14 +19,12 @@ fn recording(bytes: &[u8]) -> Result<Recording<'_>, usize> {
                 of = Some(Config { fs_ind: *fs_ind as usize, duration: *duration as usize })
             }
             (0x02, frame, Some(of)) if (20..=400).contains(&frame.len()) => frames.push((of, frame)),
-            (0x10..=0x14, table, _) if tables[tag as usize - 0x10].is_none() => {
-                tables[tag as usize - 0x10] = Some(table)
-            }
+            (0x10..=0x14, ..) if !tables[tag as usize - 0x10] => tables[tag as usize - 0x10] = true,
             _ => return Err(at),
         }
         at += 3 + content.len();
     }
-    Ok(Recording { frames, tables })
+    Ok(frames)
 }
 
 // What the Rust reads of a frame, and what it read written back; of a refused frame there is nothing to write.
@@ -42,11 +32,11 @@ fn put_frame(out: &mut Records, of: Config, frame: &[u8]) {
     let case = Read { of, at: (0, 0), frame: frame.to_vec() };
     case.put(out);
     let read = case.answer();
-    if read[0] != ACCEPTED {
+    if read.refusal().is_some() {
         return;
     }
-    // in the answer the record stands before the two cursors
-    let record = &read[1..read.len() - 16];
+    // in the answer the record stands behind the two cursors
+    let record = &read.numbers[3..];
     let tail = case.walk().tail;
     // before the write the side information's own bits are all wrong, so that one left unwritten shows
     let mut before = frame.to_vec();
@@ -54,42 +44,27 @@ fn put_frame(out: &mut Records, of: Config, frame: &[u8]) {
         before[frame.len() - 1 - bit / 8] ^= 1 << (bit % 8);
     }
     // this answer is the recording's, not the Rust's: what was read gives the frame's own bits again
-    let mut written = vec![ACCEPTED];
-    for cursor in [0, tail] {
-        written.extend((cursor as u64).to_be_bytes());
-    }
-    written.extend(frame);
-    out.put(10, &in_case(of, (0, 0), [record, &before]), &written);
+    out.put(34, (&in_call(of, (0, 0), record), &before), &written(&[0, tail], frame));
 }
 
 // Returns how many frames there were. Every file is judged before the first record is written.
 pub fn run(out: &mut Records, files: &[String]) -> usize {
     let contents: Vec<Vec<u8>> =
         files.iter().map(|file| std::fs::read(file).unwrap_or_else(|e| stop(file, &e.to_string()))).collect();
-    let (mut all, mut sets) = (Vec::new(), Vec::new());
+    let mut all = Vec::new();
     for (file, bytes) in files.iter().zip(&contents) {
         match recording(bytes) {
-            Ok(Recording { frames, tables }) => {
+            Ok(frames) => {
                 if frames.is_empty() {
                     stop(file, "this recording has no frame");
                 }
                 eprintln!("oracle recording {}: {} frames", file.rsplit('/').next().unwrap_or(file), frames.len());
                 all.extend(frames);
-                // a recording may come without its tables
-                if let [Some(a), Some(b), Some(c), Some(d), Some(e)] = tables {
-                    let set = [a, b, c, d, e].map(<[u8]>::to_vec);
-                    if !tables::has_sizes(&set) {
-                        stop(file, "a table of its set has another size");
-                    }
-                    sets.push(set);
-                }
             }
             Err(at) => stop(file, &format!("this is no recording: its field at byte {} cannot be there", at)),
         }
     }
     all.iter().for_each(|(of, frame)| put_frame(out, *of, frame));
-    sets.iter().for_each(|set| tables::put(out, set, true));
-    sets.first().into_iter().for_each(|set| tables::put_changed(out, set));
     all.len()
 }
 

@@ -3,7 +3,7 @@
 use crate::records::Rng;
 
 pub const TOTAL: usize = 1024;
-// what the rows of one case may take, each with its count, in numbers of two bytes
+// what the rows of one list may have, with one more to each
 const ROOM: usize = 1100;
 
 #[derive(Clone)]
@@ -111,24 +111,4 @@ pub fn some(rng: &mut Rng) -> Vec<Row> {
         }
     }
     rows
-}
-
-// As a case has them: how many bytes follow, then each row behind the count of its symbols; two bytes to a number.
-pub fn put(case: &mut Vec<u8>, rows: &[Row]) {
-    let words: usize = rows.iter().map(|row| 1 + row.len()).sum();
-    assert!(words <= ROOM, "rows that a case has no room for");
-    case.extend((2 * words as u16).to_be_bytes());
-    for row in rows {
-        case.extend((row.len() as u16).to_be_bytes());
-        row.frequency.iter().for_each(|f| case.extend(f.to_be_bytes()));
-    }
-}
-
-// A list as a case has it: how many bytes follow, then of each symbol its row's number and its place there.
-pub fn put_list(case: &mut Vec<u8>, list: impl ExactSizeIterator<Item = (usize, usize)>) {
-    case.extend((3 * list.len() as u16).to_be_bytes());
-    for (row, symbol) in list {
-        case.push(row as u8);
-        case.extend((symbol as u16).to_be_bytes());
-    }
 }

@@ -12,7 +12,7 @@ use crate::lc3::encoder::long_term_post_filter::LongTermPostFilterResult;
 use crate::lc3::encoder::spectral_noise_shaping::SnsResult;
 use crate::lc3::encoder::spectral_quantization::SpectralQuantizationResult;
 use crate::lc3::encoder::temporal_noise_shaping::TnsResult;
-use crate::records::{hold, refused, OneOfEach, Records, Rng, ACCEPTED};
+use crate::records::{accepted, hold, refused, Answer, OneOfEach, Records, Rng};
 
 // the shortest frame
 const SHORT: usize = 20;
@@ -146,10 +146,9 @@ impl Record {
         fields
     }
 
-    // As a case and an answer have it.
-    fn bytes(&self) -> Vec<u8> {
-        let mut bytes = Vec::new();
-        for field in [
+    // As a call and an answer have it.
+    fn numbers(&self) -> [usize; 19] {
+        [
             self.bandwidth,
             self.lastnz,
             self.lsb,
@@ -169,10 +168,7 @@ impl Record {
             self.active,
             self.index,
             self.noise,
-        ] {
-            bytes.extend((field as u32).to_be_bytes());
-        }
-        bytes
+        ]
     }
 
     // What the Rust's writer takes.
@@ -237,13 +233,13 @@ pub struct Walk<'a> {
     frame: &'a [u8],
     head: usize,
     pub tail: usize,
-    refusal: Option<Vec<u8>>,
+    refusal: Option<Answer>,
     // the refusal is one that the Rust does not have
     panics: bool,
 }
 
 impl Walk<'_> {
-    fn refuse(&mut self, is_so: bool, number: u8, values: &[usize]) -> bool {
+    fn refuse(&mut self, is_so: bool, number: usize, values: &[usize]) -> bool {
         if is_so && self.refusal.is_none() {
             self.refusal = Some(refused(number, values));
         }
@@ -293,7 +289,7 @@ impl Walk<'_> {
         self.field(1 + msb);
         self.bit();
         let joint = self.field(25 - msb);
-        self.refuse(joint >= [BLOCKS * BLOCK, END_24][msb], 7 + msb as u8, &[joint]);
+        self.refuse(joint >= [BLOCKS * BLOCK, END_24][msb], 7 + msb, &[joint]);
         if pitch == 1 {
             self.bit();
             self.field(9);
@@ -302,13 +298,9 @@ impl Walk<'_> {
     }
 }
 
-pub fn in_case(of: Config, (head, tail): (usize, usize), rest: [&[u8]; 2]) -> Vec<u8> {
-    let mut case = vec![of.fs_ind as u8, of.duration as u8];
-    for cursor in [head, tail] {
-        case.extend((cursor as u64).to_be_bytes());
-    }
-    rest.iter().for_each(|part| case.extend(*part));
-    case
+// The numbers of a call, with those of the record where it is written.
+pub fn in_call(of: Config, (head, tail): (usize, usize), record: &[usize]) -> Vec<usize> {
+    [&[head, tail, of.fs_ind, of.duration], record].concat()
 }
 
 pub struct Read {
@@ -327,7 +319,7 @@ impl Read {
     pub fn put(&self, out: &mut Records) {
         let walk = self.walk();
         let panics = walk.refusal.filter(|_| walk.panics);
-        out.put_said(9, &in_case(self.of, self.at, [&self.frame, &[]]), panics, || self.answer());
+        out.put_said(33, (&in_call(self.of, self.at, &[]), &self.frame), panics, || self.answer());
     }
 
     pub fn walk(&self) -> Walk<'_> {
@@ -337,7 +329,7 @@ impl Read {
         walk
     }
 
-    pub fn answer(&self) -> Vec<u8> {
+    pub fn answer(&self) -> Answer {
         let mut reader = reader_at(self.at);
         let result = read(&self.frame, &mut reader, self.of.fs_ind, self.of.ne());
         let ((head, tail), walk) = (cursors(&reader), self.walk());
@@ -367,11 +359,7 @@ impl Read {
                     index: filter.pitch_index,
                     noise: side.noise_factor,
                 };
-                let mut answer = vec![ACCEPTED];
-                answer.extend(record.bytes());
-                answer.extend((head as u64).to_be_bytes());
-                answer.extend((tail as u64).to_be_bytes());
-                answer
+                accepted(&[&[head, tail], &record.numbers()[..]].concat())
             }
             Err(BandwidthIdxOutOfRange(bandwidth)) => refused(5, &[bandwidth]),
             Err(LastNonZeroTupleGreaterThanYLen(lastnz, ne)) => refused(6, &[lastnz, ne]),
@@ -397,12 +385,12 @@ impl Write {
     }
 
     fn put(&self, out: &mut Records) {
-        let case = in_case(self.of, self.at, [&self.record.bytes(), &self.frame]);
-        out.put_said(10, &case, self.panics(), || self.answer());
+        let numbers = in_call(self.of, self.at, &self.record.numbers());
+        out.put_said(34, (&numbers, &self.frame), self.panics(), || self.answer());
     }
 
     // The Rust panics where a field passes the frame's first byte; document 01 refuses the first that does.
-    fn panics(&self) -> Option<Vec<u8>> {
+    fn panics(&self) -> Option<Answer> {
         let mut tail = self.at.1;
         for (width, _) in self.record.fields(self.of).into_iter().filter(|(width, _)| *width > 0) {
             if tail + width > 8 * self.frame.len() {
@@ -413,7 +401,7 @@ impl Write {
         None
     }
 
-    fn answer(&self) -> Vec<u8> {
+    fn answer(&self) -> Answer {
         let (side, mut frame) = (self.record.side(self.of), self.frame.clone());
         let writer = writer_at(frame.len(), self.at);
         let writer = door::side(self.of.ne(), writer, &side, &mut frame);
@@ -655,13 +643,13 @@ pub fn sample(out: &mut Records) {
     let (mut places, mut fields) = (OneOfEach::new(), OneOfEach::new());
     read_rooms(rng, SHORT, |record, case| {
         let Walk { tail, refusal, panics, .. } = case.walk();
-        let number = refusal.map(|refusal| refusal[0]);
+        let number = refusal.and_then(|refusal| refusal.refusal());
         places.take(pick, (case.of, number, panics, tail - case.at.1, record.bandwidth >= 3), case)
     });
     read_rooms(rng, SHORT, |_, case| {
         let Walk { tail, refusal, panics, .. } = case.walk();
         if let Some(refusal) = refusal {
-            fields.take(pick, (case.of, panics, refusal.get(8).copied(), tail % 8), case)
+            fields.take(pick, (case.of, panics, refusal.numbers.get(1).map(|n| *n as u8), tail % 8), case)
         }
     });
     places.cases().chain(fields.cases()).for_each(|case| case.put(out));

@@ -1,5 +1,5 @@
-// Cases of the spectral quantisation: the quantiser, the gain search and the bit estimate. A record has many answers, so
-// the count is that of the random answers of each, and not of records.
+// Cases of the spectral quantisation: the quantiser, the gain search and the bit estimate. The count is that of the random
+// cases of each.
 
 use super::{estimate, gain_search, quantiser};
 use crate::records::{Records, Rng};

@@ -98,7 +98,7 @@ fn of_refused(refused: &Refused) -> String {
 }
 
 // The lines behind the first.
-fn of_read(read: &Read, bytes: usize) -> String {
+pub fn of_read(read: &Read, bytes: usize) -> String {
     let [bandwidth, lastnz, lsb, gain, _, _, pitch, low, high, msb, submode, sns_gain, a, idx_a, b, idx_b, active, index, noise] =
         read.side;
     let mut tns = String::new();

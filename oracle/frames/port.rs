@@ -3,6 +3,7 @@
 use super::answers::{Answer, Case, Read, Refused, SIDE};
 use super::sets::Lent;
 use super::tally::Tally;
+use crate::lc3::tables::Set;
 
 // what the lent slices hold before a call, so that what is left alone shows
 const LINE: i32 = -0x5a5a_5a5b;
@@ -202,12 +203,25 @@ pub fn check(set: &Lent) -> bool {
 // An answer of the port, with what it wrote judged by the rules for lent memory.
 #[cfg(not(rust_alone))]
 pub fn read(case: &Case, set: &Lent, reading: usize) -> Result<Answer, String> {
-    let mut to = Slices::new(case.room, case.frame.len() % 3);
-    let number = call([case.fs_ind, case.duration, reading], set, &case.frame, &mut to);
+    let (number, to) = called(case, set, reading);
     let answer = answer_of(number, &to, case.frame.len())?;
     short(case, set, reading, &to, number)?;
     together(case, set, reading)?;
     Ok(answer)
+}
+
+// The same by one call alone.
+#[cfg(not(rust_alone))]
+pub fn read_once(case: &Case, set: &Lent, reading: usize) -> Result<Answer, String> {
+    let (number, to) = called(case, set, reading);
+    answer_of(number, &to, case.frame.len())
+}
+
+#[cfg(not(rust_alone))]
+fn called(case: &Case, set: &Lent, reading: usize) -> (u32, Slices) {
+    let mut to = Slices::new(case.room, case.frame.len() % 3);
+    let number = call([case.fs_ind, case.duration, reading], set, &case.frame, &mut to);
+    (number, to)
 }
 
 // the Rust alone: nothing is linked, and its own answer stands in
@@ -369,6 +383,24 @@ pub fn limits(tally: &mut Tally) -> Result<(), String> {
         if all != 2 * (number == 0) as usize || lines != to.lines {
             return Err(format!("{:?}, two of {} bytes, {} lines: {} accepted", of, len, room, all));
         }
+    }
+    Ok(())
+}
+
+#[cfg(rust_alone)]
+pub fn tables(_: &Set, _: &mut Tally) -> Result<(), String> {
+    Ok(())
+}
+
+// The check of a table set, whole and changed in one way at a time.
+#[cfg(not(rust_alone))]
+pub fn tables(set: &Set, tally: &mut Tally) -> Result<(), String> {
+    let whole = Lent::of(set);
+    for (at, (passes, changed)) in super::sets::changed(&whole).into_iter().enumerate() {
+        if check(&changed) != passes || !check(&whole) {
+            return Err(format!("the table set's check says otherwise of change {}", at));
+        }
+        tally.add(if passes { "tables: passed" } else { "tables: refused 3" });
     }
     Ok(())
 }

@@ -36,6 +36,9 @@ const EXPECTED: &[&str] = &[
     "head and tail have crossed",
     "order 8 of filter 0",
     "order 8 of filter 1",
+    "parts of the flat set filled at their size",
+    "parts of the flat set filled, shorter",
+    "parts of the flat set filled, longer",
 ];
 
 impl Tally {

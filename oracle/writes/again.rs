@@ -45,7 +45,8 @@ fn lost(frame: &[u8], again: &[u8], tail: usize) -> bool {
     without != frame && without == again
 }
 
-fn record(frame: &answers::Case, read: &Read) -> Option<Case> {
+// What a frame is written of, by what was read of it.
+pub fn record(frame: &answers::Case, read: &Read) -> Option<Case> {
     let lines: Option<Vec<i16>> = read.lines[..frame.ne()].iter().map(|line| i16::try_from(*line).ok()).collect();
     let content = Content {
         side: read.side,

@@ -156,8 +156,14 @@ pub struct Late {
 }
 
 impl Content {
+    // Two bits of each magnitude are in the pair's last symbol, and an escape stands for every further one.
+    pub fn escapes(&self, pair: usize) -> u32 {
+        let most = self.lines[2 * pair].unsigned_abs().max(self.lines[2 * pair + 1].unsigned_abs());
+        most.max(2).ilog2() - 1
+    }
+
     pub fn escaped(&self, pair: usize) -> bool {
-        self.lines[2 * pair].unsigned_abs().max(self.lines[2 * pair + 1].unsigned_abs()) >= 4
+        self.escapes(pair) > 0
     }
 
     // In least-bit mode: the lowest bit of each line of an escaped pair, and behind it the sign of a magnitude 1.

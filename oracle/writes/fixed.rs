@@ -1,6 +1,7 @@
 // Records with a known answer, and refusals 1 to 4, which the Rust has no checks for.
 
 use super::content::*;
+use super::field::{self, Place};
 use super::make::Cheap;
 use super::tally::Tally;
 use super::{port, rust};
@@ -8,6 +9,7 @@ use crate::frames::answers::{self, Answer};
 use crate::frames::port as reader;
 use crate::frames::sets::Lent;
 use crate::lc3::tables::FLAT;
+use crate::records::Rng;
 
 // A record with the side information 0 but for lastnz, at `fs_ind` 0 and 10 ms.
 fn plain(len: usize, lastnz: usize, front: &[i16], residual: &[u8]) -> Case {
@@ -32,7 +34,8 @@ pub fn all(tally: &mut Tally) -> Result<(), String> {
     reserved(tally)?;
     finish(tally)?;
     levels(tally)?;
-    limits(tally)
+    limits(tally)?;
+    fields(tally)
 }
 
 fn holds(is_so: bool, what: &str, tally: &mut Tally) -> Result<(), String> {
@@ -51,7 +54,7 @@ fn forecast(tally: &mut Tally) -> Result<(), String> {
     let case = plain(20, 24, &[24; 24], &[1; 24]);
     let frame = bytes("a0000000000000000000000000123bfa0000000b");
     let need = rust::need(&case).ok_or("the Rust panics")?;
-    holds((need.tail, need.reserved, need.is_empty()) == (154, 3, true), "tail 154, E 3, nothing sent", tally)?;
+    holds((need.tail, need.reserved(), need.is_empty()) == (154, 3, true), "tail 154, E 3, nothing sent", tally)?;
     holds(rust::encode(&case).as_ref() == Some(&frame), "the Rust sends no residual bit", tally)?;
     holds(port::write(&case, &set, 0)? == Ok(frame.clone()), "no residual bit in reading 0", tally)?;
     // tail bits 154 to 156 lie in the first byte
@@ -65,7 +68,7 @@ fn reserved(tally: &mut Tally) -> Result<(), String> {
     let set = Lent::of(&FLAT);
     let case = plain(20, 34, &[1; 32], &[]);
     let need = rust::need(&case).ok_or("the Rust panics")?;
-    holds((need.tail, need.reserved) == (90, 71), "tail 90, E 71", tally)?;
+    holds((need.tail, need.reserved()) == (90, 71), "tail 90, E 71", tally)?;
     for reading in 0..2 {
         holds(port::write(&case, &set, reading)? == Err(Refused(16, 0)), "refused 16 by E", tally)?;
         let longer = plain(21, 34, &[1; 32], &[]);
@@ -152,6 +155,41 @@ fn limits(tally: &mut Tally) -> Result<(), String> {
             let what = format!("{:?}, {} bytes, {} lines: {:?}", of, len, count, said);
             holds(said.as_ref().err() == expected.as_ref(), &what, tally)?;
         }
+    }
+    Ok(())
+}
+
+// 18, by the buffer and by the 4,096 bytes that a field holds at most, comes before 1 to 4.
+fn fields(tally: &mut Tally) -> Result<(), String> {
+    let sound = Lent::of(&FLAT);
+    let mut wrong = Lent::of(&FLAT);
+    wrong.lookup[4095] = 64;
+    let content = plain(20, 2, &[], &[]).content;
+    let mut rng = Rng::new(0);
+    let last = usize::MAX;
+    let frame = |bytes| port::lent([0, 0, 0], &sound, &content, bytes, [19, 16, 5]);
+    let cases: [(&Lent, [usize; 3], [usize; 3], port::Answer); 17] = [
+        (&sound, [0, 0, 0], [23, 0, 20], frame(20)?),
+        (&sound, [0, 0, 0], [30, 7, 20], frame(20)?),
+        (&sound, [0, 0, 0], [500, 0, 400], frame(400)?),
+        (&sound, [0, 0, 0], [22, 0, 20], Err(Refused(18, 0))),
+        (&sound, [0, 0, 0], [30, 8, 20], Err(Refused(18, 8))),
+        (&sound, [0, 0, 0], [30, 31, 20], Err(Refused(18, 31))),
+        (&sound, [0, 0, 0], [30, last, 20], Err(Refused(18, last))),
+        (&sound, [0, 0, 0], [30, 0, last], Err(Refused(18, 0))),
+        (&sound, [0, 0, 0], [30, last - 22, 20], Err(Refused(18, last - 22))),
+        (&sound, [0, 0, 0], [5000, 1, 4097], Err(Refused(18, 1))),
+        (&sound, [0, 0, 0], [5000, 1, 4096], Err(Refused(2, 4096))),
+        (&sound, [0, 0, 0], [2, 0, 0], Err(Refused(18, 0))),
+        (&sound, [0, 0, 0], [3, 0, 0], Err(Refused(2, 0))),
+        (&wrong, [5, 0, 0], [21, 0, 19], Err(Refused(18, 0))),
+        (&wrong, [5, 0, 0], [22, 0, 19], Err(Refused(1, 0))),
+        (&wrong, [0, 0, 0], [22, 0, 19], Err(Refused(2, 19))),
+        (&wrong, [0, 0, 0], [23, 0, 20], Err(Refused(3, 0))),
+    ];
+    for (set, of, [room, offset, bytes], expected) in cases {
+        let said = field::holds(of, set, &content, Place { room, offset, bytes }, &expected, &mut rng);
+        holds(said.is_ok(), &said.err().unwrap_or_default(), tally)?;
     }
     Ok(())
 }

@@ -8,7 +8,7 @@ use crate::records::Rng;
 use crate::rows::peaked;
 
 // as many records one behind the other share a table set
-const BLOCK: usize = 128;
+pub const BLOCK: usize = 128;
 // the last symbol of a row, which is an escape
 const ESCAPE: usize = 16;
 
@@ -82,9 +82,23 @@ impl Maker {
         self.kind
     }
 
-    // First every real frame's record at its length; then blocks of records by one set each.
+    // How many records are of real frames.
+    pub fn real(&self) -> usize {
+        self.real.as_ref().map_or(0, |real| real.cases.len())
+    }
+
+    // Some of the made ones are spoilt.
     pub fn case(&mut self, at: usize) -> Case {
-        let count = self.real.as_ref().map_or(0, |real| real.cases.len());
+        let mut case = self.sound(at);
+        if at >= self.real() && self.rng.below(6) == 0 {
+            spoil(&mut self.rng, &mut case);
+        }
+        case
+    }
+
+    // First every real frame's record at its length; then blocks of records by one set each. None is refused 13 to 15.
+    pub fn sound(&mut self, at: usize) -> Case {
+        let count = self.real();
         if at < count {
             let real = self.real.as_ref().expect("there are real frames");
             if at == 0 {
@@ -103,9 +117,6 @@ impl Maker {
         };
         fit(rng, &mut case);
         put_residual(rng, &mut case.content);
-        if rng.below(6) == 0 {
-            spoil(rng, &mut case);
-        }
         case
     }
 

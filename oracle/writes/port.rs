@@ -1,11 +1,11 @@
-// What this repository's code makes of a record, through the call that it exports.
+// What this repository's code makes of a record, through the calls that it exports.
 
 use super::content::{Case, Content, Refused};
 use crate::frames::sets::Lent;
 
 // what the lent slices hold before a call, so that what is left alone shows
 const BYTE: u8 = 0xa5;
-const NUMBER: usize = 0x5a5a_a5a5_5a5a_a5a5;
+pub const NUMBER: usize = 0x5a5a_a5a5_5a5a_a5a5;
 // what a refusal lays over the numbers: two values, a step and its two numbers
 const NUMBERS: usize = 5;
 
@@ -40,6 +40,37 @@ mod exported {
             residual_count: usize,
             frame: *mut u8,
             frame_count: usize,
+            numbers: *mut usize,
+            numbers_count: usize,
+        ) -> u32;
+        pub fn lc3_write_field(
+            fs_ind: usize,
+            duration: usize,
+            reading: usize,
+            lookup: *const u8,
+            lookup_count: usize,
+            frequencies: *const u16,
+            frequencies_count: usize,
+            bits: *const u16,
+            bits_count: usize,
+            orders: *const u16,
+            orders_count: usize,
+            coefficients: *const u16,
+            coefficients_count: usize,
+            words: *const u32,
+            words_count: usize,
+            first_order: usize,
+            second_order: usize,
+            indices: *const usize,
+            indices_count: usize,
+            lines: *const i16,
+            lines_count: usize,
+            residual: *const u8,
+            residual_count: usize,
+            buffer: *mut u8,
+            buffer_count: usize,
+            offset: usize,
+            bytes: usize,
             numbers: *mut usize,
             numbers_count: usize,
         ) -> u32;
@@ -85,6 +116,50 @@ fn call(of: [usize; 3], set: &Lent, content: &Content, to: &mut Slices) -> u32 {
             to.frame.len(),
             to.numbers.as_mut_ptr(),
             to.numbers.len(),
+        )
+    }
+}
+
+// A field of so many bytes of frame at an offset of a buffer.
+pub fn call_field(
+    of: [usize; 3],
+    set: &Lent,
+    content: &Content,
+    [offset, bytes]: [usize; 2],
+    buffer: &mut [u8],
+    numbers: &mut [usize],
+) -> u32 {
+    unsafe {
+        exported::lc3_write_field(
+            of[0],
+            of[1],
+            of[2],
+            set.lookup.as_ptr(),
+            set.lookup.len(),
+            set.frequencies.as_ptr(),
+            set.frequencies.len(),
+            set.bits.as_ptr(),
+            set.bits.len(),
+            set.orders.as_ptr(),
+            set.orders.len(),
+            set.coefficients.as_ptr(),
+            set.coefficients.len(),
+            content.side.as_ptr(),
+            content.side.len(),
+            content.orders[0],
+            content.orders[1],
+            content.indices.as_ptr(),
+            content.indices.len(),
+            content.lines.as_ptr(),
+            content.lines.len(),
+            content.residual.as_ptr(),
+            content.residual.len(),
+            buffer.as_mut_ptr(),
+            buffer.len(),
+            offset,
+            bytes,
+            numbers.as_mut_ptr(),
+            numbers.len(),
         )
     }
 }

@@ -10,7 +10,8 @@ use crate::lc3::encoder::temporal_noise_shaping::TnsResult;
 use crate::lc3::encoder::{bitstream_encoding, standard_encoding};
 use crate::records::caught;
 
-// a frame that holds any record: 200 pairs of 14 symbols each, and their tail bits
+// a frame that holds almost any record, and one that holds any: 200 pairs of 14 symbols each, and their tail bits
+const SHORT: usize = 800;
 const LONG: usize = 8000;
 // the joint index of 25 bits has blocks of this length, that of 24 bits ends shape 2 here
 const BLOCK: usize = 2_390_004;
@@ -20,13 +21,19 @@ const SHAPE_3: usize = 15_158_272;
 #[derive(Clone, Copy, Debug)]
 pub struct Need {
     pub tail: usize,
-    pub reserved: usize,
+    // S, the coder's byte shifts
+    pub shifts: usize,
     pub state: State,
 }
 
 impl Need {
     pub fn bits(&self) -> usize {
-        self.tail + self.reserved
+        self.tail + self.reserved()
+    }
+
+    // E
+    pub fn reserved(&self) -> usize {
+        8 * self.shifts + 25 - self.state.range.ilog2() as usize
     }
 
     // The cache holds nothing, and the Rust's forecast is E + 8.
@@ -113,12 +120,15 @@ pub fn encode_standard(case: &Case) -> Option<Vec<u8>> {
     Some(frame)
 }
 
-// On a frame that is longer than any record, with what the record's own length decides.
+// On a frame that is longer than the record, with what the record's own length decides; the Rust panics at a frame's end.
 pub fn need(case: &Case) -> Option<Need> {
-    let mut frame = [0; LONG];
+    need_in(case, &mut [0; SHORT]).or_else(|| need_in(case, &mut [0; LONG]))
+}
+
+fn need_in(case: &Case, frame: &mut [u8]) -> Option<Need> {
     let side = side!(bitstream_encoding::door, case);
-    let call = || bitstream_encoding::door::before_residual(case.ne(), &side, &case.content.lines, &mut frame);
+    let call = || bitstream_encoding::door::before_residual(case.ne(), &side, &case.content.lines, frame);
     let (tail, state) = caught(call)?;
     let shifts = state.bp + (state.cache >= 0) as usize + state.carry_count as usize;
-    Some(Need { tail, reserved: 8 * shifts + 25 - state.range.ilog2() as usize, state })
+    Some(Need { tail, shifts, state })
 }

@@ -45,6 +45,14 @@ const EXPECTED: &[&str] = &[
     "read back with lowest bits cleared",
     "own frames, read and written again the same",
     "own frames, read and written again with a last late bit 0 for a 1 whose sign has no room",
+    "written as a field",
+    "written as a field, and the buffer ends with it",
+    "as a field refused 13",
+    "as a field refused 14",
+    "as a field refused 15",
+    "as a field refused 16",
+    "as a field refused 18",
+    "as a field refused 18, before the frame's own refusal",
 ];
 
 // Where recordings are at hand.

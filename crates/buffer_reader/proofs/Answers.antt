@@ -1,6 +1,6 @@
 -- What each read answers, case by case: which refusal by which fact, and the value where none holds. Later proofs go by these.
 -- A refusal depends on the length, the cursor and the width alone, and a value on the places read alone. Assumes nothing.
-use Prim.Native.Nat.{ℕ, _+_, _%_, _≤_, _<_}
+use Prim.Native.Nat.{ℕ, _+_, _/_, _%_, _≤_, _<_}
 use mathlib.Core.Path.{_≡_, refl}
 use mathlib.Core.Bool.{true, false, not}
 use mathlib.Core.List.{List}
@@ -38,6 +38,11 @@ module _ (f : List ℕ) (c : Cursor) where
 
   pub bit-refused : length f ≤ 65535 → bitBeyond (length f) c ≡ true → takeBit f c ≡ refused (noTailRoom 1 (c .tail))
   bit-refused l p = rw (le-ltb 65535 (length f) l, p) refl
+
+  -- cursors may meet: a bit is there while the head is no further than two bytes past the tail's byte
+  pub bit-there : c .head + c .tail / 8 ≤ length f + 2 → c .tail / 8 < length f → bitBeyond (length f) c ≡ false
+  bit-there near inside =
+      rw (le-ltb (length f + 2) (c .head + c .tail / 8) near, lt-leb (length f) (c .tail / 8) inside) refl
 
   pub bit-taken : length f ≤ 65535 → bitBeyond (length f) c ≡ false → takeBit f c ≡ accepted (eqb (tailBit f (c .tail)) 1, record { head = c .head; tail = c .tail + 1 })
   bit-taken l p = rw (le-ltb 65535 (length f) l, p) refl

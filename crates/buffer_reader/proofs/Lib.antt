@@ -5,3 +5,5 @@ pub mod Answers
 pub mod Unique
 pub mod Steps
 pub mod Roomy
+pub mod Readers
+pub mod Held

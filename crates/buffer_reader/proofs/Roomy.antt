@@ -11,7 +11,7 @@ use Rattle.common.specs.Reply.{Step, Reply, Answer, accepted, refused, given, a
 use Rattle.buffer_reader.specs.Reads.{listed, bytesWanted, fieldBeyond, bitBeyond}
 use Rattle.buffer_reader.specs.Steps.{Reading, found, next, refusing, ifPresent, fieldIn, flagIn, asNumber}
 use Rattle.buffer_reader.specs.declared.Cursor.{Cursor}
-use Rattle.buffer_reader.proofs.Answers.{bits-taken, bit-taken}
+use Rattle.buffer_reader.proofs.Answers.{bits-taken, bit-there, bit-taken}
 use Rattle.buffer_reader.proofs.Rooms.{wanted-holds}
 use Rattle.buffer_reader.proofs.Steps.{Holds, holds-at}
 
@@ -111,8 +111,7 @@ module _ (P : Reply → Type 0) where
   roomy-flag step =
       record {
         ends = λ f c l room.
-            let there : bitBeyond (length f) c ≡ false =
-            rw (le-ltb (length f + 2) (c .head + c .tail / 8) (omega arith)) (lt-leb (length f) (c .tail / 8) (omega arith)) in
+            let there = bit-there f c (omega arith) (omega arith) in
             ends-accepted P (λ r. Ahead c 1 (r .1)) (flagIn step f c) (record { same = refl; near = omega arith })
             (ap (λ a. within step (andThen a asNumber)) (bit-taken f c l there));
       }

@@ -6,7 +6,9 @@ use lib.Dec.{eqb}
 use lib.ListN.{getD}
 use Rattle.common.specs.Reply.{Reply, Answer, accepted, refused}
 use Rattle.common.proofs.Unique.{from-back}
+use Prim.Native.Nat.{ℕ}
 use Rattle.buffer_reader.specs.Reads.{replyOf, byteOf, threeOf, bitsOf, bitOf}
+use Rattle.buffer_reader.specs.Reader.{takenOf}
 use Rattle.buffer_reader.specs.declared.BufferError.{BufferError}
 use Rattle.buffer_reader.specs.declared.BufferError.the-variants.{WrongLength, WidthNotListed, NoTailRoom, PastEnd}
 use Rattle.buffer_reader.specs.declared.ByteRead.{ByteRead}
@@ -17,6 +19,8 @@ use Rattle.buffer_reader.specs.declared.BitsRead.{BitsRead}
 use Rattle.buffer_reader.specs.declared.BitsRead.the-variants.{Bits, Refused as BitsRefused}
 use Rattle.buffer_reader.specs.declared.BitRead.{BitRead}
 use Rattle.buffer_reader.specs.declared.BitRead.the-variants.{Bit, Refused as BitRefused}
+use Rattle.buffer_reader.specs.declared.reader.Taken.{Taken}
+use Rattle.buffer_reader.specs.declared.reader.Taken.the-variants.{Value, Refused as TakenRefused}
 
 -- a refusal, found again by its number
 unfoldable pub errorBack : Reply → BufferError
@@ -72,3 +76,11 @@ bit-unique = from-back bitOf (backFrom (λ v. Bit (v .0) (v .1)) BitRefused) fou
     found : (r : BitRead) → backFrom (λ v. Bit (v .0) (v .1)) BitRefused (bitOf r) ≡ r
     found (Bit v c) = refl
     found (BitRefused e) = ap BitRefused (error-back e)
+
+pub taken-unique : (a b : Taken) → takenOf a ≡ takenOf b → a ≡ b
+unfolding backFrom
+taken-unique = from-back takenOf (backFrom (λ (v : ℕ). Value v) TakenRefused) found
+  where
+    found : (r : Taken) → backFrom (λ (v : ℕ). Value v) TakenRefused (takenOf r) ≡ r
+    found (Value v) = refl
+    found (TakenRefused e) = ap TakenRefused (error-back e)

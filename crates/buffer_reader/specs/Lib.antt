@@ -1,4 +1,5 @@
 pub mod Tail
 pub mod Reads
 pub mod Steps
+pub mod Reader
 pub mod Private

@@ -4,6 +4,7 @@ ghost use mathlib.Core.Path.{_≡_};
 ghost use Rattle.buffer_reader.specs.Reads.{takeByte, takeThree, takeBits, takeBit, byteOf, threeOf, bitsOf, bitOf};
 
 pub mod inner;
+pub mod reader;
 mod tail;
 
 pub struct Cursor {

@@ -13,7 +13,8 @@ use Rattle.buffer_reader.proofs.Tails.{field-none, field-more, field-agrees, cu
 use Rattle.buffer_writer.specs.Writes.{withBit, putBit, putField}
 use Rattle.buffer_writer.proofs.Bytes.{with-bit-lt, with-bit-same, with-bit-other}
 
-set-bytes : (f : List ℕ) (p v : ℕ) → v < 256 → Bytes f → Bytes (set f p v)
+-- bytes stay bytes where one is set
+pub set-bytes : (f : List ℕ) (p v : ℕ) → v < 256 → Bytes f → Bytes (set f p v)
 set-bytes f p v h bytes i = go (ℕ-discrete i p) (decLt p (length f))
   where
     go : Dec (i ≡ p) → Dec (p < length f) → getD (set f p v) i 0 < 256

@@ -1,6 +1,7 @@
 // What the crates of this repository use without the checks: each call states what it requires.
 ghost use mathlib.Core.Path.{_≡_};
 ghost use Prim.Native.Nat.{_^_, _≤_, _<_};
+ghost use lib.Seq.{sets};
 ghost use Rattle.common.specs.Configuration as Configuration;
 ghost use Rattle.common.specs.Configuration.{lengthPasses};
 ghost use Rattle.common.specs.Last.{floorLog2};
@@ -48,4 +49,18 @@ pub fn wide(byte: u8) -> u32
     ensures { λ r. ⌜ (r ≡ byte) × (r < 256) ⌝ }
 {
     byte as u32
+}
+
+// Bytes laid over a lent slice from its front, as far as both are long.
+pub fn lay_bytes(to: &mut [u8], from: &[u8])
+    ensures { λ _. ⌜ now (to .exit) ≡ sets (now (to .entry)) 0 (now (from .entry)) ⌝ }
+{
+    let mut i = 0;
+    while i < to.len() {
+        if from.len() <= i {
+            return;
+        }
+        to[i] = from[i];
+        i += 1;
+    }
 }

@@ -1,7 +1,7 @@
 -- The escapes of a pair are the one number n, 14 at most, at which what is left of both magnitudes is below 4, and before which
 -- it is not. So the symbol behind them is below 16, and its two parts are found again in it. Assumes nothing.
-use Prim.Native.Nat.{ℕ, _+_, _≤_, _<_}
-use mathlib.Core.Path.{_≡_, sym, subst, _∙_}
+use Prim.Native.Nat.{ℕ, _+_, _-_, _/_, _^_, _≤_, _<_}
+use mathlib.Core.Path.{_≡_, sym, ap, subst, _∙_}
 use mathlib.Core.Bool.{true, false, true≢false}
 use mathlib.Core.Logic.{⊎-elim}
 use native.Mathlib.Omega.{arith}
@@ -9,7 +9,8 @@ use native.Mathlib.Nat.{eq-or-lt-of-le}
 use borrow.Author.Count.{below-more}
 use borrow.Author.Tests.{lt-ltb, ltb-true, le-ltb, leb-true, leb-false}
 use lib.Dec.{leb, ltb}
-use Rattle.common.proofs.Bools.{and-left, and-right, and-both, and-first-fails, and-first-holds, by-test}
+use lib.Pow.{shr-shr, shr-le}
+use Rattle.common.proofs.Bools.{and-left, and-right, and-both, and-first-fails, and-first-holds, not-passed, by-test}
 use Rattle.contexts.specs.Contexts.{shifted, fitsSymbol, escapes, escapeSymbol, symbolFrom, firstPart, secondPart, pairSymbol}
 use Rattle.contexts.proofs.Firsts.{First, first-is, first-law, first-most}
 
@@ -56,6 +57,39 @@ escaped-at a b n p q e = subst (Escaped a b) (sym e) (escapes-law a b p q)
 pub escapes-are : (a b n : ℕ) → Escaped a b n → escapes a b ≡ n
 escapes-are a b n e =
     first-is (fitsSymbol a b) 0 14 n (omega arith) (omega (arith, e .most)) (fits-both a b n (e .first) (e .second)) (e .before)
+
+-- what fits at a place is below 2 at any place behind it
+fits-halved : (x i n : ℕ) → i < n → shifted x i < 4 → shifted x n < 2
+fits-halved x i n h small =
+    let whole : i + (n - 1 - i) + 1 ≡ n = omega arith in
+    let parts : x / 2 ^ i / 2 ^ (n - 1 - i) / 2 ≡ x / 2 ^ n =
+    ap (λ (q : ℕ). q / 2) (shr-shr x i (n - 1 - i)) ∙ shr-shr x (i + (n - 1 - i)) 1 ∙ ap (λ (q : ℕ). x / 2 ^ q) whole in
+    omega (arith, shr-le (x / 2 ^ i) (n - 1 - i))
+
+halved-fits : (a n : ℕ) → 0 < n → shifted a n < 2 → shifted a (n - 1) < 4
+halved-fits a n h small =
+    let whole : n - 1 + 1 ≡ n = omega arith in
+    let parts : a / 2 ^ (n - 1) / 2 ≡ a / 2 ^ n = shr-shr a (n - 1) 1 ∙ ap (λ (q : ℕ). a / 2 ^ q) whole in
+    omega arith
+
+-- magnitudes of which the same is left have the same escapes: at the least number 2 or more is left of one of them
+pub escapes-same : (a b x y : ℕ) → a < 65536 → b < 65536 → shifted x (escapes a b) ≡ shifted a (escapes a b) → shifted y (escapes a b) ≡ shifted b (escapes a b) → escapes x y ≡ escapes a b
+escapes-same a b x y p q first second =
+    let n = escapes a b in
+    let law = escapes-law a b p q in
+    escapes-are x y n
+    (record {
+      most = law .most;
+      first = omega (arith, first, law .first);
+      second = omega (arith, second, law .second);
+      before = λ i h. not-passed (fitsSymbol x y i)
+          (λ fits.
+          let both = fits-parts x y i fits in
+          true≢false (sym (fits-both a b (n - 1)
+          (halved-fits a n (omega arith) (omega (arith, first, fits-halved x i n h (both .0))))
+          (halved-fits b n (omega arith) (omega (arith, second, fits-halved y i n h (both .1)))))
+          ∙ law .before (n - 1) (omega arith)));
+    })
 
 -- one place more that does not fit: it is not the fourteenth, which does
 pub escapes-next : (a b n : ℕ) → a < 65536 → b < 65536 → n ≤ 14 → ((i : ℕ) → i < n → fitsSymbol a b i ≡ false) → fitsSymbol a b n ≡ false → (n + 1 ≤ 14) × ((i : ℕ) → i < n + 1 → fitsSymbol a b i ≡ false)

@@ -35,7 +35,7 @@ fitsSymbol a b n = ltb (shifted a n) 4 && ltb (shifted b n) 4
 abbrev pub escapes : ℕ → ℕ → ℕ
 escapes a b = firstFrom (fitsSymbol a b) 0 14
 
--- the symbol that says "not yet": two tail bits, and the next level
+-- the symbol that says that they do not fit yet: two tail bits, and the next level
 abbrev pub escapeSymbol : ℕ
 escapeSymbol = 16
 

@@ -1,4 +1,4 @@
--- The lines of a frame that is written, by their places: line, magnitude, sign, and the escapes of a pair.
+-- The lines of a frame that is written, by their places: line, magnitude, sign, the escapes of a pair, and a line without its lowest bit.
 use Prim.Native.Nat.{ℕ, _+_, _*_, _/_}
 use mathlib.Core.Bool.{Bool, cond, _&&_}
 use mathlib.Core.List.{List}

@@ -10,7 +10,8 @@ use Rattle.common.specs.Reply.{accepted}
 use Rattle.recording.specs.Tagged.{fieldAt, found, endOf}
 use Rattle.recording.specs.declared.reader.Field.{Field}
 use Rattle.recording.proofs.Answers.{field-known}
-use Rattle.dumping.specs.Steps.{Held, dumpMost, stepOn, stepAt}
+use Rattle.dumping.specs.Dump.{Held, dumpMost}
+use Rattle.dumping.specs.Steps.{stepOn, stepAt}
 
 module _ (h : Held) (input : List ℕ) (at : ℕ) (x : Field) (e : fieldAt dumpMost (h .state .before) input at ≡ accepted (found x)) where
   pub field-lies : (at + 3 ≤ endOf x) × (endOf x ≤ length input)

@@ -18,7 +18,7 @@ use Rattle.recording.specs.declared.reader.Before.{Before}
 use Rattle.recording.specs.declared.reader.Field.{Field}
 use Rattle.recording.proofs.Answers.{field-known}
 use Rattle.recording.proofs.Words.{words-length}
-use Rattle.dumping.specs.Steps.{dumpMost, laidIf, tablesWith, blank}
+use Rattle.dumping.specs.Dump.{dumpMost, laidIf, tablesWith, blank}
 use Rattle.dumping.specs.Stated.{Sized, Taken}
 
 -- a list over one as long is that list

@@ -17,8 +17,8 @@ use Rattle.recording.specs.declared.reader.Before.{Before}
 use Rattle.recording.specs.declared.reader.Field.{Field}
 use Rattle.recording.proofs.Answers.{field-known}
 use Rattle.recording.proofs.Theorems.{walk-of, walk-within, content-within}
-use Rattle.dumping.specs.Steps.{Held, start, dumpMost, heldWith, printed, stepBy, stepAt}
-use Rattle.dumping.specs.Dump.{fieldsText, heldBehind, walkText, dumpText, onward, stepsText}
+use Rattle.dumping.specs.Dump.{Held, start, dumpMost, heldWith, printed, fieldsText, heldBehind, walkText, dumpText}
+use Rattle.dumping.specs.Steps.{stepBy, stepAt, onward, stepsText}
 use Rattle.dumping.specs.declared.Onward.the-variants.{At}
 
 -- from any offset, with steps enough

@@ -1,3 +1,3 @@
-pub mod Steps
 pub mod Dump
+pub mod Steps
 pub mod Stated

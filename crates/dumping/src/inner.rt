@@ -7,7 +7,8 @@ ghost use lib.ListN.{length};
 ghost use lib.Seq.{sets};
 ghost use Rattle.recording.specs.Contents.{wordsOf, configurationOf};
 ghost use Rattle.recording.specs.Tagged.{tagConfiguration, tagFrame, tagLookup, tagFrequencies, tagBits, tagOrders, tagCoefficients};
-ghost use Rattle.dumping.specs.Steps.{laidIf, stateWith, printed as Steps·printed, stepOn, stepAt};
+ghost use Rattle.dumping.specs.Dump.{laidIf, stateWith, printed as Dump·printed};
+ghost use Rattle.dumping.specs.Steps.{stepOn, stepAt};
 use crate::DUMP_MOST;
 use crate::Onward;
 use crate::State;
@@ -105,8 +106,8 @@ fn print(
     out: &mut [u8],
 ) -> usize
     requires { ⌜ state .frames < 0xFFFFFFFFFFFFFFFF ⌝ }
-    ensures length { λ r. ⌜ r ≡ length (Steps·printed (record { state = state; tables = record { lookup = now (lookup .entry); frequencies = now (frequencies .entry); bits = now (bits .entry); orders = now (orders .entry); coefficients = now (coefficients .entry) } }) tag (now (content .entry))) ⌝ }
-    ensures lent { λ _. ⌜ now (out .exit) ≡ sets (now (out .entry)) 0 (Steps·printed (record { state = state; tables = record { lookup = now (lookup .entry); frequencies = now (frequencies .entry); bits = now (bits .entry); orders = now (orders .entry); coefficients = now (coefficients .entry) } }) tag (now (content .entry))) ⌝ }
+    ensures length { λ r. ⌜ r ≡ length (Dump·printed (record { state = state; tables = record { lookup = now (lookup .entry); frequencies = now (frequencies .entry); bits = now (bits .entry); orders = now (orders .entry); coefficients = now (coefficients .entry) } }) tag (now (content .entry))) ⌝ }
+    ensures lent { λ _. ⌜ now (out .exit) ≡ sets (now (out .entry)) 0 (Dump·printed (record { state = state; tables = record { lookup = now (lookup .entry); frequencies = now (frequencies .entry); bits = now (bits .entry); orders = now (orders .entry); coefficients = now (coefficients .entry) } }) tag (now (content .entry))) ⌝ }
 {
     if tag == tags::FRAME {
         let number = state.frames + 1;

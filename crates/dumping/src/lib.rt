@@ -1,6 +1,6 @@
 // The dump, step by step: what is held between two fields, and what a step prints. How input and output arrive is the program's.
 ghost use mathlib.Core.Path.{_≡_};
-ghost use Rattle.dumping.specs.Steps.{started};
+ghost use Rattle.dumping.specs.Dump.{started};
 
 pub mod inner;
 

@@ -6,7 +6,7 @@ pub mod Lines
 pub mod Fills
 pub mod Answers
 pub mod Owners
-pub mod Sides
+pub mod Placed
 pub mod Reread
 pub mod Takes
 pub mod Earlies

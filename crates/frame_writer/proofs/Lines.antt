@@ -8,11 +8,11 @@ use native.Mathlib.Omega.{arith}
 use native.Mathlib.Decide.{decLt}
 use native.Mathlib.Nat.{eq-or-lt-of-le}
 use native.Mathlib.Numerals.{add-one}
-use borrow.Author.Tests.{ltb-false}
+use borrow.Author.Tests.{le-leb, ltb-false}
 use lib.Dec.{ltb, leb}
 use lib.IntN.{ℤ, pos}
 use lib.ListN.{length, getD, List·getD-eq-default}
-use Rattle.common.proofs.Bools.{by-test}
+use Rattle.common.proofs.Bools.{by-test, or-fails-second, and-first-holds}
 use Rattle.contexts.specs.Contexts.{magnitudes}
 use Rattle.contexts.specs.First.{firstFrom}
 use Rattle.contexts.specs.Lines.{magnitudeAt}
@@ -31,6 +31,13 @@ module _ (holds : ℕ → Bool) (n k : ℕ) (l : k < n) where
 pub first-end : (holds : ℕ → Bool) (n k : ℕ) → n ≤ k → firstFrom holds k (n - k) ≡ k
 unfolding firstFrom
 first-end holds n k l = let size : n - k ≡ 0 = omega arith in rw size refl
+
+-- a test that holds nowhere has its first place behind all
+pub first-behind : (holds : ℕ → Bool) (k n : ℕ) → ((i : ℕ) → k ≤ i → i < k + n → holds i ≡ false) → firstFrom holds k n ≡ k + n
+unfolding firstFrom
+first-behind holds k zero h = omega arith
+first-behind holds k (suc n) h =
+    rw (h k (omega arith) (omega arith)) (first-behind holds (suc k) n (λ i a b. h i (omega arith) (omega arith)) ∙ omega arith)
 
 -- where it is the place behind all, it holds at none
 pub first-none : (holds : ℕ → Bool) (k n : ℕ) → k + n ≤ firstFrom holds k n → (i : ℕ) → k ≤ i → i < k + n → holds i ≡ false
@@ -57,6 +64,13 @@ kept-most lines lastnz k e =
     by-test (ltb 32767 (magnitudeAt lines k))
     (λ t. let z : true ≡ false = rw t at e in let w : _≡_ {A = ℕ} 0 1 = cc in absurd (omega arith))
     (λ t. ltb-false 32767 (magnitudeAt lines k) t)
+
+-- and it is 0 from lastnz on
+pub kept-zero : (lines : List ℤ) (lastnz k : ℕ) → failsAt lines lastnz k ≡ false → lastnz ≤ k → magnitudeAt lines k ≡ 0
+kept-zero lines lastnz k e l =
+    let second = or-fails-second (ltb 32767 (magnitudeAt lines k)) (leb lastnz k && ltb 0 (magnitudeAt lines k)) e in
+    let none : ltb 0 (magnitudeAt lines k) ≡ false = sym (and-first-holds (ltb 0 (magnitudeAt lines k)) (le-leb lastnz k l)) ∙ second in
+    omega (arith, ltb-false 0 (magnitudeAt lines k) none)
 
 -- so are all, where none fails; past the last line there are zeros
 pub all-modest : (lines : List ℤ) (lastnz : ℕ) → length lines ≤ firstFrom (failsAt lines lastnz) 0 (length lines) → (k : ℕ) → magnitudeAt lines k ≤ 32767

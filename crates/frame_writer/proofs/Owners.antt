@@ -20,6 +20,7 @@ use Rattle.common.proofs.Bools.{by-test, and-right}
 use Rattle.common.proofs.Configurations.{frame-known}
 use Rattle.common.proofs.Replies.{accepted-same, given-split, then-split}
 use Rattle.common.proofs.Sets.{lookup-passed, frequencies-passed, orders-passed, coefficients-passed}
+use Rattle.contexts.specs.Lines.{magnitudeAt}
 use Rattle.side_info.specs.Record.{sidePasses}
 use Rattle.buffer_reader.specs.Tail.{tailBit}
 use Rattle.buffer_reader.proofs.Tails.{tail-bit-there}
@@ -38,10 +39,10 @@ use Rattle.sending.proofs.Stands.{puts-keep, stands-put}
 use Rattle.tns_data.specs.Sent.{tnsPasses}
 use Rattle.spectral_data.specs.Private.{Modest}
 use Rattle.residual_data.specs.Residual.{nonzero}
-use Rattle.frame_writer.specs.Frame.{Content, symbolsOf, earlyBits, lateBits, reserved, tailBits, fieldsPass, firstFailing, writeFrame}
+use Rattle.frame_writer.specs.Frame.{Content, symbolsOf, earlyBits, lateBits, reserved, tailBits, fieldsPass, lineFails, firstFailing, writeFrame}
 use Rattle.frame_writer.specs.Whose.{Place, ownBit, inTail, placeOf, Parted}
 use Rattle.frame_writer.proofs.Frames.{tail-room}
-use Rattle.frame_writer.proofs.Lines.{all-modest}
+use Rattle.frame_writer.proofs.Lines.{first-none, kept-zero, all-modest}
 use Rattle.frame_writer.proofs.Values.{content-passes, tail-low}
 
 -- ---- places of the tail
@@ -55,7 +56,8 @@ in-tail f k (b ∷ bs) (suc i) beyond h l =
     let e : k + suc i ≡ k + 1 + i = omega arith in
     rw e (in-tail f (k + 1) bs i beyond (h .1) (omega arith))
 
-behind-tail : (bits : List Bit) (i : ℕ) (beyond : Place) → length bits ≤ i → inTail bits i beyond ≡ beyond
+-- behind them all is what stands beyond
+pub behind-tail : (bits : List Bit) (i : ℕ) (beyond : Place) → length bits ≤ i → inTail bits i beyond ≡ beyond
 unfolding inTail
 behind-tail [] i beyond l = refl
 behind-tail (b ∷ bs) zero beyond l = absurd (omega arith)
@@ -222,6 +224,10 @@ module _ (k : Configuration) (t : Tables) (w : Content) (bytes : ℕ) {frame : L
 
 pub lines-modest : (w : Content) → length (w .lines) ≤ firstFailing w → Modest (w .lines)
 lines-modest w h = all-modest (w .lines) (w .side .lastnz) h
+
+pub lines-zero : (w : Content) → length (w .lines) ≤ firstFailing w → (k : ℕ) → w .side .lastnz ≤ k → k < length (w .lines) → magnitudeAt (w .lines) k ≡ 0
+lines-zero w h k l m =
+    kept-zero (w .lines) (w .side .lastnz) k (first-none (lineFails w) 0 (length (w .lines)) (omega (arith, h)) k (omega arith) (omega (arith, m))) l
 
 pub symbols-given : (k : Configuration) (t : Tables) (bits n : ℕ) (w : Content) → tablesPass t ≡ true → fieldsPass (k .«fs_ind») n w ≡ true → Modest (w .lines) → AllPass (symbolsOf k t bits n w)
 symbols-given k t bits n w tables fields modest =

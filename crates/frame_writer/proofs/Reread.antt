@@ -158,7 +158,7 @@ larger-evened : (x : ℤ) → natAbs x % 2 ≡ 0 → evened (larger x) ≡ x
 larger-evened (pos m) h = let e : suc m / 2 * 2 ≡ m = omega arith in rw e refl
 larger-evened (negsuc m) h = let e : (suc m + 1) / 2 * 2 ≡ suc m = omega arith in rw e refl
 
-zero-line : (x : ℤ) → natAbs x ≡ 0 → pos 0 ≡ x
+pub zero-line : (x : ℤ) → natAbs x ≡ 0 → pos 0 ≡ x
 zero-line (pos m) h = ap pos (sym h)
 zero-line (negsuc m) h = absurd (omega arith)
 

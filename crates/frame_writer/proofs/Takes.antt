@@ -20,7 +20,6 @@ use Rattle.common.proofs.Configurations.{frame-known}
 use Rattle.common.proofs.Replies.{accepted-same, given-split, then-split, within-split}
 use Rattle.common.proofs.Sets.{lookup-passed, frequencies-passed, orders-passed, coefficients-passed}
 use Rattle.contexts.specs.Contexts.{rateFlag}
-use Rattle.contexts.specs.First.{firstFrom}
 use Rattle.contexts.specs.Lines.{lineAt, magnitudeAt, escapesAt, earlyLine}
 use Rattle.buffer_reader.specs.Reads.{takeThree, threeAt}
 use Rattle.buffer_reader.specs.Steps.{found}
@@ -33,6 +32,7 @@ use Rattle.side_info.proofs.Answers.{frame-ranges}
 use Rattle.side_info.proofs.Image.{image-passes}
 use Rattle.side_info.proofs.Lengths.{if-there}
 use Rattle.side_info.proofs.SideLimits.{SideLimits, side-limits}
+use Rattle.side_info.proofs.Sides.{side-took}
 use Rattle.range_decoder.specs.Decoder.{startDecoder, rangePasses}
 use Rattle.range_decoder.specs.declared.DecoderState.{DecoderState}
 use Rattle.range_encoder.specs.Encoder.{startEncoder, shiftsOf, reservedBits}
@@ -65,12 +65,12 @@ use Rattle.frame_reader.proofs.Data.{Behind, data-behind, weighting-most}
 use Rattle.frame_reader.proofs.Magnitudes.{EvenPair}
 use Rattle.frame_reader.proofs.Theorems.{residual-listed, lines-within}
 use Rattle.frame_reader.proofs.Whole.{judged}
-use Rattle.frame_writer.specs.Frame.{Content, symbolsOf, fieldsBits, earlyBits, reserved, tailBits, fieldsPass, lineFails, firstFailing, writeFrame}
+use Rattle.frame_writer.specs.Frame.{Content, symbolsOf, fieldsBits, leastBit, earlyBits, reserved, tailBits, fieldsPass, lineFails, firstFailing, writeFrame}
 use Rattle.frame_writer.specs.Taken.{contentOf, FewEscapes, SameEscapes, StandardLate, Taken}
 use Rattle.frame_writer.proofs.Fields.{fields-bits-length}
+use Rattle.frame_writer.proofs.Lines.{first-behind}
 use Rattle.frame_writer.proofs.Owners.{symbols-given}
 use Rattle.frame_writer.proofs.Reread.{WholePair, pairs-whole, Again, nothing, pairs-again, level-at, filled-at, plain-again, late-filled}
-use Rattle.frame_writer.proofs.Sides.{side-took}
 
 abbrev origin : Cursor
 origin = record { head = 0; tail = 0 }
@@ -197,12 +197,16 @@ module _ (k : Configuration) (t : Tables) (f : List ℕ) (n : ℕ) (lines : fram
           ap (λ (m : ℕ). 8 * m + 25 - floorLog2 (stateBehind startEncoder symbols .range)) shifts ∙
           ap (λ (m : ℕ). 8 * (pr .1 .head - 3) + 25 - floorLog2 m) range
 
-      -- 16, where 12 was passed
-      room-taken : 0x10000 ≤ pr .0 .state .range → pr .0 .state .range ≤ 0xFFFFFF → usedBits (pr .1) (pr .0 .state .range) ≤ bits → length (earlyBits (k .«fs_ind») n (content ls rs)) + reserved symbols ≤ bits
-      room-taken least most fits =
+      -- the tail stands behind the bits that are early
+      early-is : length (earlyBits (k .«fs_ind») n (content ls rs)) ≡ pr .1 .tail
+      early-is =
           let took = side-took (k .«fs_ind») n f origin s b sided in
           let late = pairsBits (eqb (s .lsb) 1) ls 0 (s .lastnz / 2) in
-          omega (arith, reserved-is, behind-all .1, filters-tail, begun .tail, took .tail, log-most (pr .0 .state .range) least most, fits, length-append (fieldsBits (sideFields (k .«fs_ind») n s)) late, fields-bits-length (sideFields (k .«fs_ind») n s))
+          omega (arith, behind-all .1, filters-tail, begun .tail, took .tail, length-append (fieldsBits (sideFields (k .«fs_ind») n s)) late, fields-bits-length (sideFields (k .«fs_ind») n s))
+
+      -- 16, where 12 was passed: both leave the same room
+      room-taken : 0x10000 ≤ pr .0 .state .range → pr .0 .state .range ≤ 0xFFFFFF → usedBits (pr .1) (pr .0 .state .range) ≤ bits → length (earlyBits (k .«fs_ind») n (content ls rs)) + reserved symbols + (bits - usedBits (pr .1) (pr .0 .state .range)) ≡ bits
+      room-taken least most fits = omega (arith, reserved-is, early-is, log-most (pr .0 .state .range) least most, fits)
 
 -- ---- the lines as they are returned
 
@@ -236,13 +240,6 @@ module _ (reading : ℕ) (f : List ℕ) (xs : List Pair) (tail room : ℕ) where
       subst (λ (i : ℕ). Again lsb ls i (getD xs q nothing)) (sym (zero-add q))
       (record { escapes = same q l ∙ level-at xs q; first = again .0; second = again .1 }))
 
--- a test that holds nowhere has its first place behind all
-first-behind : (holds : ℕ → Bool) (k n : ℕ) → ((i : ℕ) → k ≤ i → i < k + n → holds i ≡ false) → firstFrom holds k n ≡ k + n
-unfolding firstFrom
-first-behind holds k zero h = omega arith
-first-behind holds k (suc n) h =
-    rw (h k (omega arith) (omega arith)) (first-behind holds (suc k) n (λ i a b. h i (omega arith) (omega arith)) ∙ omega arith)
-
 -- every place is an even or an odd one
 modest-lines : (x : Frame) → Magnitudes x → FewEscapes x → Modest (x .lines)
 modest-lines x m few k =
@@ -271,12 +268,27 @@ residual-taken bits x l =
 
 -- ---- the frame
 
+-- what is written of a frame that was read is what was read: the filters, the pairs, the coder and the tail behind them, and the room there;
+-- and what came late makes the frame
+pub record Rewritten (k : Configuration) (t : Tables) (f : List ℕ) (n : ℕ) (x : Frame) : Type 0 where
+  pub filters : tnsOf (x .tns .first .order) (x .tns .second .order) (sixteenOf (x .tns)) ≡ x .tns
+  pub pairs : pairsOf (leastBit (contentOf x)) (x .lines) 0 (x .side .lastnz / 2) ≡ x .pairs
+  pub range : x .range ≡ behind whole (symbolsOf k t (8 * length f) n (contentOf x)) .range
+  pub head : x .cursor .head ≡ 3 + behind whole (symbolsOf k t (8 * length f) n (contentOf x)) .shifts
+  pub room : ℕ
+  pub all : length (earlyBits (k .«fs_ind») n (contentOf x)) + reserved (symbolsOf k t (8 * length f) n (contentOf x)) + room ≡ 8 * length f
+  pub late :
+      let d : Data = record { side = x .side; tns = x .tns; pairs = x .pairs; range = x .range } in
+      let c : Cursor = record { head = x .cursor .head; tail = length (earlyBits (k .«fs_ind») n (contentOf x)) } in
+      cond (leastBit (contentOf x)) (withLate (k .reading) n f d c room) (withResidual n f d c room) ≡ x
+
 -- what is shown of a frame by its parts
-record Parts (k : Configuration) (t : Tables) (bytes n : ℕ) (x : Frame) : Type 0 where
+record Parts (k : Configuration) (t : Tables) (f : List ℕ) (n : ℕ) (x : Frame) : Type 0 where
   count : length (x .lines) ≡ n
+  paired : length (x .pairs) ≡ x .side .lastnz / 2
   fields : fieldsPass (k .«fs_ind») n (contentOf x) ≡ true
   zeros : (i : ℕ) → x .side .lastnz ≤ i → magnitudeAt (x .lines) i ≡ 0
-  room : Modest (x .lines) → StandardLate k x → SameEscapes x → length (earlyBits (k .«fs_ind») n (contentOf x)) + reserved (symbolsOf k t (8 * bytes) n (contentOf x)) ≤ 8 * bytes
+  again : Modest (x .lines) → StandardLate k x → SameEscapes x → Rewritten k t f n x
 
 abbrev frameBy : SideInfo → Tns → List Pair → ℕ → List ℤ → List ℕ → Cursor → Frame
 frameBy s tns pairs range ls rs c =
@@ -290,7 +302,7 @@ module _ (k : Configuration) (t : Tables) (f : List ℕ) (n : ℕ) (lines : fram
   -- what data that was read makes
   abbrev Made : Data × Cursor → Type 0
   Made r =
-      Behind (k .«fs_ind») n f r → usedBits (r .1) (r .0 .range) ≤ 8 * length f → (room : ℕ) (lsb : Bool) → eqb (r .0 .side .lsb) 1 ≡ lsb → Parts k t (length f) n (byMode (k .reading) n f r room lsb)
+      Behind (k .«fs_ind») n f r → usedBits (r .1) (r .0 .range) ≤ 8 * length f → (lsb : Bool) → eqb (r .0 .side .lsb) 1 ≡ lsb → Parts k t f n (byMode (k .reading) n f r (8 * length f - usedBits (r .1) (r .0 .range)) lsb)
 
   module _ (s : SideInfo) (b : Cursor) (sided : readAll (k .«fs_ind») n f origin ≡ accepted (s, b)) (y : DecoderState × Cursor) (started : startIn f b ≡ accepted y)
       (tn : Coded Tns × Cursor) (tnsRead : readTns (t .orders) (t .coefficients) (weightingRow (k .duration) (8 * length f)) (s .«tns_first») (s .«tns_second») (y .0) f (y .1) ≡ accepted tn)
@@ -301,7 +313,10 @@ module _ (k : Configuration) (t : Tables) (f : List ℕ) (n : ℕ) (lines : fram
     abbrev read : Data × Cursor
     read = (record { side = s; tns = tn .0 .value; pairs = xs; range = pr .0 .state .range }, pr .1)
 
-    module _ (known : Behind (k .«fs_ind») n f read) (fits : usedBits (pr .1) (pr .0 .state .range) ≤ 8 * length f) (room : ℕ) (lsb : Bool) (is : eqb (s .lsb) 1 ≡ lsb) where
+    abbrev room : ℕ
+    room = 8 * length f - usedBits (pr .1) (pr .0 .state .range)
+
+    module _ (known : Behind (k .«fs_ind») n f read) (fits : usedBits (pr .1) (pr .0 .state .range) ≤ 8 * length f) (lsb : Bool) (is : eqb (s .lsb) 1 ≡ lsb) where
       abbrev ls : List ℤ
       ls = linesBy (k .reading) f xs (pr .1 .tail) room lsb
 
@@ -314,20 +329,38 @@ module _ (k : Configuration) (t : Tables) (f : List ℕ) (n : ℕ) (lines : fram
           subst (λ (m : ℕ). xs ≡ pairsOf (eqb (s .lsb) 1) (filledTo n ls) 0 m) (known .count)
           (subst (λ (u : Bool). xs ≡ pairsOf u (filledTo n ls) 0 (length xs)) (sym is) (sym pairs))
 
-      parts-by : (rs : List ℕ) (c : Cursor) → Parts k t (length f) n (frameBy s (tn .0 .value) xs (pr .0 .state .range) (filledTo n ls) rs c)
-      parts-by rs c =
-          let most = known .limits .last in
-          record {
-            count = omega (arith, length-append ls (replicate (n - length ls) (pos 0)), length-replicate (n - length ls) (pos 0), size, most);
-            fields = fields-taken k t f n lines tables s b sided y started tn tnsRead pr pairsRead (filledTo n ls) rs;
-            zeros = λ i h. ap natAbs (filled-at ls (n - length ls) i ∙ List·getD-eq-default ls (pos 0) (omega (arith, size, h)));
-            room = λ modest standard same.
-                room-taken k t f n lines tables s b sided y started tn tnsRead pr pairsRead (filledTo n ls) rs modest (again (λ h. standard (is ∙ h)) same) (known .least) (known .most) fits;
-          }
+      module _ (rs : List ℕ) (c : Cursor) (headed : c .head ≡ pr .1 .head) where
+        abbrev x : Frame
+        x = frameBy s (tn .0 .value) xs (pr .0 .state .range) (filledTo n ls) rs c
+
+        rewritten : ((tail : ℕ) → tail ≡ pr .1 .tail → byMode (k .reading) n f (read .0, record { head = c .head; tail = tail }) room (eqb (s .lsb) 1) ≡ x) → Modest (x .lines) → StandardLate k x → SameEscapes x → Rewritten k t f n x
+        rewritten late modest standard same =
+            let pairs = again (λ h. standard (is ∙ h)) same in
+            let at = behind-all k t f n lines tables s b sided y started tn tnsRead pr pairsRead (filledTo n ls) rs modest pairs .0 in
+            record {
+              filters = tns-kept k t f n lines tables s b sided y started tn tnsRead pr pairsRead .1;
+              pairs = sym pairs;
+              range = at .range;
+              head = headed ∙ at .head;
+              room = room;
+              all = room-taken k t f n lines tables s b sided y started tn tnsRead pr pairsRead (filledTo n ls) rs modest pairs (known .least) (known .most) fits;
+              late = late (length (earlyBits (k .«fs_ind») n (contentOf x))) (early-is k t f n lines tables s b sided y started tn tnsRead pr pairsRead (filledTo n ls) rs modest pairs);
+            }
+
+        parts-by : ((tail : ℕ) → tail ≡ pr .1 .tail → byMode (k .reading) n f (read .0, record { head = c .head; tail = tail }) room (eqb (s .lsb) 1) ≡ x) → Parts k t f n x
+        parts-by late =
+            let most = known .limits .last in
+            record {
+              count = omega (arith, length-append ls (replicate (n - length ls) (pos 0)), length-replicate (n - length ls) (pos 0), size, most);
+              paired = known .count;
+              fields = fields-taken k t f n lines tables s b sided y started tn tnsRead pr pairsRead (filledTo n ls) rs;
+              zeros = λ i h. ap natAbs (filled-at ls (n - length ls) i ∙ List·getD-eq-default ls (pos 0) (omega (arith, size, h)));
+              again = rewritten late;
+            }
 
     made : Made read
-    made known fits room true is = parts-by known fits room true is _ _
-    made known fits room false is = parts-by known fits room false is _ _
+    made known fits true is = parts-by known fits true is _ (byMode (k .reading) n f read room true .cursor) refl (λ tail e. rw (is, e) refl)
+    made known fits false is = parts-by known fits false is _ (byMode (k .reading) n f read room false .cursor) refl (λ tail e. rw (is, e) refl)
 
   data-made : (r : Data × Cursor) → readData k t (8 * length f) n f origin ≡ accepted r → Made r
   data-made r e =
@@ -340,50 +373,57 @@ module _ (k : Configuration) (t : Tables) (f : List ℕ) (n : ℕ) (lines : fram
 -- ---- the theorem
 
 module _ (k : Configuration) (t : Tables) (count : ℕ) (f : List ℕ) (x : Frame) (e : readFrame k t count f ≡ accepted x) where
-  parts : (n : ℕ) × (n ≡ ne (k .duration) (k .«fs_ind»)) × Parts k t (length f) n x
+  abbrev n : ℕ
+  n = ne (k .duration) (k .«fs_ind»)
+
+  -- it passed 1 to 4
+  pub checked : (frameLines k (length f) ≡ accepted n) × (tablesPass t ≡ true) × (n ≤ count) × (readOn k t n f ≡ accepted x)
+  checked =
+      let p = then-split (frameLines k (length f)) (λ m. given (not (tablesPass t)) tablesFail (given (ltb count m) (wrongCount count) (readOn k t m f))) e in
+      let is : p .0 ≡ n = frame-known k (length f) (p .1) .2 in
+      let q = given-split (not (tablesPass t)) tablesFail (given (ltb count (p .0)) (wrongCount count) (readOn k t (p .0) f)) (p .2) in
+      let r = given-split (ltb count (p .0)) (wrongCount count) (readOn k t (p .0) f) (q .1) in
+      (p .1 ∙ ap accepted is, not-false (tablesPass t) (q .0), omega (arith, is, ltb-false count (p .0) (r .0)), ap (λ (m : ℕ). readOn k t m f) (sym is) ∙ r .1)
+
+  parts : Parts k t f n x
   parts =
-      let p = then-split (frameLines k (length f)) (λ n. given (not (tablesPass t)) tablesFail (given (ltb count n) (wrongCount count) (readOn k t n f))) e in
-      let n = p .0 in
-      let q = given-split (not (tablesPass t)) tablesFail (given (ltb count n) (wrongCount count) (readOn k t n f)) (p .2) in
-      let tables = not-false (tablesPass t) (q .0) in
-      let r = given-split (ltb count n) (wrongCount count) (readOn k t n f) (q .1) in
-      let s = then-split (readData k t (8 * length f) n f origin) (λ d. finished (k .reading) n f (d .0) (d .1)) (r .1) in
+      let lines = checked .0 in
+      let tables = checked .1 in
+      let s = then-split (readData k t (8 * length f) n f origin) (λ d. finished (k .reading) n f (d .0) (d .1)) (checked .3) in
       let u = then-split (available (8 * length f) (s .0 .1) (s .0 .0 .range)) (λ room. accepted (byMode (k .reading) n f (s .0) room (eqb (s .0 .0 .side .lsb) 1))) (s .2) in
       let g = given-split (ltb (8 * length f) (usedBits (s .0 .1) (s .0 .0 .range))) residualNegative (accepted (8 * length f - usedBits (s .0 .1) (s .0 .0 .range))) (u .1) in
-      let known = data-behind k n f (t .lookup) (t .frequencies) (t .orders) (t .coefficients) (judged k t count f n (p .1) tables) (s .1) in (
-        n,
-        frame-known k (length f) (p .1) .2,
-        subst (Parts k t (length f) n) (accepted-same (u .2))
-            (data-made k t f n (p .1) tables (s .0) (s .1) known (ltb-false (8 * length f) (usedBits (s .0 .1) (s .0 .0 .range)) (g .0)) (u .0) (eqb (s .0 .0 .side .lsb) 1) refl),
-      )
+      let known = data-behind k n f (t .lookup) (t .frequencies) (t .orders) (t .coefficients) (judged k t count f n lines tables) (s .1) in
+      subst (Parts k t f n) (ap (λ (room : ℕ). byMode (k .reading) n f (s .0) room (eqb (s .0 .0 .side .lsb) 1)) (accepted-same (g .1)) ∙ accepted-same (u .2))
+      (data-made k t f n lines tables (s .0) (s .1) known (ltb-false (8 * length f) (usedBits (s .0 .1) (s .0 .0 .range)) (g .0)) (eqb (s .0 .0 .side .lsb) 1) refl)
+
+  -- it has a pair for each two lines up to lastnz
+  pub pairs-counted : length (x .pairs) ≡ x .side .lastnz / 2
+  pairs-counted = parts .paired
+
+  -- what was read with the escapes that its lines have is written as it was read
+  pub taken-again : StandardLate k x → FewEscapes x → SameEscapes x → Rewritten k t f n x
+  taken-again standard few same = parts .again (modest-lines x (lines-within k t count f x e) few) standard same
 
   -- whatever is read passes 4, 13 and 15, and 14 and 16 where it was read with the escapes that its lines have
   pub taken : Taken k t (length f) x
   taken =
       let magnitudes = lines-within k t count f x e in
-      let h = subst (λ (n : ℕ). Parts k t (length f) n x) (parts .1) (parts .2) in
       record {
-        count = h .count;
-        fields = h .fields;
-        lines = λ few. lines-taken x (modest-lines x magnitudes few) (h .zeros);
+        count = parts .count;
+        fields = parts .fields;
+        lines = λ few. lines-taken x (modest-lines x magnitudes few) (parts .zeros);
         residual = residual-taken (8 * length f) x (residual-listed k t count f x e);
-        room = λ standard few same. h .room (modest-lines x magnitudes few) standard same;
+        room = λ standard few same. omega (arith, taken-again standard few same .all);
       }
 
   -- so the writer takes it back into a frame of as many bytes
   pub taken-written : StandardLate k x → FewEscapes x → SameEscapes x →
-      let n = ne (k .duration) (k .«fs_ind») in
       let w = contentOf x in
       writeFrame k t w (length f) ≡ accepted (laid (k .reading) (length f) (symbolsOf k t (8 * length f) n w) (tailBits k t (8 * length f) n w))
   taken-written standard few same =
-      let n = ne (k .duration) (k .«fs_ind») in
       let w = contentOf x in
-      let p = then-split (frameLines k (length f)) (λ m. given (not (tablesPass t)) tablesFail (given (ltb count m) (wrongCount count) (readOn k t m f))) e in
-      let q = given-split (not (tablesPass t)) tablesFail (given (ltb count (p .0)) (wrongCount count) (readOn k t (p .0) f)) (p .2) in
-      let lines : frameLines k (length f) ≡ accepted n = p .1 ∙ ap accepted (frame-known k (length f) (p .1) .2) in
-      let tables = not-false (tablesPass t) (q .0) in
       let counted = eq-eqb (length (x .lines)) n (taken .count) in
       let none = le-ltb (firstFailing w) (length (x .lines)) (omega (arith, taken .lines few)) in
       let listed = le-ltb (nonzero (x .lines)) (length (x .residual)) (taken .residual) in
       let room = le-ltb (8 * length f) (length (earlyBits (k .«fs_ind») n w) + reserved (symbolsOf k t (8 * length f) n w)) (taken .room standard few same) in
-      rw (lines, tables, counted, taken .fields, none, listed, room) refl
+      rw (checked .0, checked .1, counted, taken .fields, none, listed, room) refl

@@ -1,4 +1,4 @@
--- Whose each bit of a written frame is: "Whose bits are whose must be certain".
+-- Whose each bit of a written frame is, so that it is certain which bits are whose.
 use Prim.Native.Nat.{ℕ, zero, suc, _+_, _-_, _*_, _/_, _%_, _^_, _≤_, _<_}
 use mathlib.Core.Path.{_≡_}
 use mathlib.Core.Bool.{cond}

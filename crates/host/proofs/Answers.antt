@@ -10,6 +10,7 @@ use Rattle.frame_reader.specs.Returned.{told}
 use Rattle.frame_reader.specs.declared.Numbers.{Numbers}
 use Rattle.frame_writer.specs.Returned.{told as Written·told}
 use Rattle.host.specs.Told.{numberOf, placeBehind}
+use Rattle.recording.specs.Writer.{endBehind}
 
 pub number-told : (reading : ℕ) (a : Answer Frame) → numberOf (told reading a) ≡ numberOf a
 number-told reading (accepted fr) = refl
@@ -31,3 +32,8 @@ number-written (refused r) = refl
 pub place-written : (a : Answer (List ℕ)) (before : List ℕ) → placeBehind (Written·told a) before ≡ placeBehind a before
 place-written (accepted f) before = refl
 place-written (refused r) before = refl
+
+-- of a frame's field
+pub number-field : (a : Answer (List ℕ)) (offset : ℕ) → numberOf (endBehind a offset) ≡ numberOf a
+number-field (accepted f) offset = refl
+number-field (refused r) offset = refl

@@ -52,6 +52,11 @@ abbrev pub placeBehind : {A : Type 0} → Answer A → List ℕ → List ℕ
 placeBehind (accepted a) before = before
 placeBehind (refused r) before = sets before 0 (placeOf r)
 
+-- of a frame's field: where the next one begins, or the refusal's place
+abbrev pub nextOrPlace : Answer ℕ → List ℕ → List ℕ
+nextOrPlace (accepted end) before = sets before 0 (end ∷ [])
+nextOrPlace (refused r) before = sets before 0 (placeOf r)
+
 abbrev pub wordsBehind : Answer Numbers → List ℕ → List ℕ
 wordsBehind (accepted n) before = sets before 0 (wordsOf n)
 wordsBehind (refused r) before = before

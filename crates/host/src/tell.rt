@@ -4,7 +4,8 @@ ghost use lib.Seq.{sets};
 ghost use Rattle.common.specs.Reply.{unlessRefused};
 ghost use Rattle.frame_reader.specs.Returned.{replyOf, outcomeOf};
 ghost use Rattle.frame_writer.specs.Returned.{writtenOf};
-ghost use Rattle.host.specs.Told.{numberOf, wordsOf, countsOf, placeOf, wordsBehind, numbersBehind, placeBehind};
+ghost use Rattle.host.specs.Told.{numberOf, wordsOf, countsOf, placeOf, wordsBehind, numbersBehind, placeBehind, nextOrPlace};
+ghost use Rattle.recording.specs.Writer.{writtenOf as Field·writtenOf};
 use crate::copies;
 use crate::told;
 use frame_reader::FrameError;
@@ -12,6 +13,7 @@ use frame_reader::FrameRead;
 use frame_reader::Numbers;
 use frame_reader::Outcome;
 use frame_writer::FrameWritten;
+use recording::writer::FieldWritten;
 
 fn tell_lists(answer: FrameRead, indices: &mut [usize], residual: &mut [u8])
     ensures tns { λ _. ⌜ now (indices .exit) ≡ sets (now (indices .entry)) 0 (answer .indices) ⌝ }
@@ -20,7 +22,7 @@ fn tell_lists(answer: FrameRead, indices: &mut [usize], residual: &mut [u8])
     let found = answer.indices;
     let list = answer.residual;
     copies::put(indices, &found);
-    copies::put_bytes(residual, &list);
+    common::inner::lay_bytes(residual, &list);
 }
 
 fn tell_numbers(n: Numbers, words: &mut [u32], numbers: &mut [usize])
@@ -76,6 +78,24 @@ pub(crate) fn tell_written(answer: FrameWritten, numbers: &mut [usize]) -> u32
             let place = told::write_place(e);
             copies::put(numbers, &place);
             told::write_number(e)
+        }
+    }
+}
+
+pub(crate) fn tell_field(answer: FieldWritten, numbers: &mut [usize]) -> u32
+    ensures number { λ r. ⌜ r ≡ numberOf (Field·writtenOf answer) ⌝ }
+    ensures place { λ _. ⌜ now (numbers .exit) ≡ nextOrPlace (Field·writtenOf answer) (now (numbers .entry)) ⌝ }
+{
+    match answer {
+        FieldWritten::Written(end) => {
+            let next = [end];
+            copies::put(numbers, &next);
+            0
+        }
+        FieldWritten::Refused(e) => {
+            let place = told::field_place(e);
+            copies::put(numbers, &place);
+            told::field_number(e)
         }
     }
 }

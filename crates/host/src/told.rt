@@ -6,11 +6,13 @@ ghost use Rattle.frame_reader.specs.Returned.{replyOf};
 ghost use Rattle.frame_writer.specs.Returned.{replyOf as Written·replyOf};
 ghost use Rattle.host.specs.Told.{wordsOf, countsOf, placeOf};
 ghost use Rattle.host.specs.Private.{inPlace};
+ghost use Rattle.recording.specs.Writer.{replyOf as Field·replyOf};
 use coding::Met;
 use coding::Refusal;
 use frame_reader::FrameError;
 use frame_reader::Numbers;
 use frame_writer::WriteError;
+use recording::writer::FieldWriteError;
 
 pub(crate) fn one_if(flag: bool) -> u32
     ensures { λ r. ⌜ r ≡ cond flag 1 0 ⌝ }
@@ -190,5 +192,23 @@ pub(crate) fn write_number(e: WriteError) -> u32
         WriteError::LineOutside(_) => 14,
         WriteError::ResidualTooLong => 15,
         WriteError::NoRoom => 16,
+    }
+}
+
+pub(crate) fn field_place(e: FieldWriteError) -> [usize; 5]
+    ensures { λ r. ⌜ r ≡ placeOf (Field·replyOf e) ⌝ }
+{
+    match e {
+        FieldWriteError::NoPlace(offset) => [offset, 0, 0, 0, 0],
+        FieldWriteError::Frame(w) => write_place(w),
+    }
+}
+
+pub(crate) fn field_number(e: FieldWriteError) -> u32
+    ensures { λ r. ⌜ r ≡ Field·replyOf e .number ⌝ }
+{
+    match e {
+        FieldWriteError::NoPlace(_) => 18,
+        FieldWriteError::Frame(w) => write_number(w),
     }
 }

@@ -8,7 +8,9 @@ use Rattle.common.proofs.Unique.{from-back}
 use Rattle.buffer_reader.specs.declared.BufferError.the-variants.{WrongLength, WidthNotListed, NoTailRoom, PastEnd}
 use Rattle.buffer_reader.specs.declared.Cursor.{Cursor}
 use Rattle.buffer_reader.proofs.Unique.{errorBack}
+use Prim.Native.Nat.{ℕ}
 use Rattle.range_decoder.specs.Decoder.{Decoded, replyOf, startedOf, symbolOf}
+use Rattle.range_decoder.specs.Lent.{symbolAtOf}
 use Rattle.range_decoder.specs.declared.DecoderState.{DecoderState}
 use Rattle.range_decoder.specs.declared.CodecError.{CodecError}
 use Rattle.range_decoder.specs.declared.CodecError.the-variants.{OutsideLimits, RowFails, LowBeyondLimit, Buffer}
@@ -16,6 +18,8 @@ use Rattle.range_decoder.specs.declared.Started.{Started}
 use Rattle.range_decoder.specs.declared.Started.the-variants.{At, Refused as StartRefused}
 use Rattle.range_decoder.specs.declared.SymbolRead.{SymbolRead}
 use Rattle.range_decoder.specs.declared.SymbolRead.the-variants.{Symbol, Refused as SymbolRefused}
+use Rattle.range_decoder.specs.declared.lent.SymbolAt.{SymbolAt}
+use Rattle.range_decoder.specs.declared.lent.SymbolAt.the-variants.{Symbol as LentSymbol, Refused as LentRefused}
 
 unfoldable pub codecBack : Reply → CodecError
 codecBack r =
@@ -57,3 +61,14 @@ symbol-back (SymbolRefused e) = rw (codec-back e) refl
 
 pub symbol-unique : (a b : SymbolRead) → symbolOf a ≡ symbolOf b → a ≡ b
 symbol-unique = from-back symbolOf symbolBack symbol-back
+
+abbrev symbolAtBack : Answer (ℕ × Cursor) → SymbolAt
+symbolAtBack (accepted v) = LentSymbol (v .0) (v .1)
+symbolAtBack (refused r) = LentRefused (codecBack r)
+
+symbol-at-back : (a : SymbolAt) → symbolAtBack (symbolAtOf a) ≡ a
+symbol-at-back (LentSymbol k c) = refl
+symbol-at-back (LentRefused e) = rw (codec-back e) refl
+
+pub symbol-at-unique : (a b : SymbolAt) → symbolAtOf a ≡ symbolAtOf b → a ≡ b
+symbol-at-unique = from-back symbolAtOf symbolAtBack symbol-at-back

@@ -1,3 +1,4 @@
 pub mod Decoder
+pub mod Lent
 pub mod Theory
 pub mod Private

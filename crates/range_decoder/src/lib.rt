@@ -5,6 +5,7 @@ use buffer_reader::BufferError;
 use buffer_reader::Cursor;
 
 pub mod inner;
+pub mod lent;
 mod row;
 
 pub struct DecoderState {

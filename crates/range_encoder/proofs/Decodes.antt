@@ -117,7 +117,7 @@ unfolding headNumber
 three-number f h = rw (add-zero h) (omega arith)
 
 -- the start is the first interval's: three bytes, and the whole range
-start-whole : (f : List ℕ) (c : Cursor) → length f ≤ 65535 → c .head + 3 ≤ length f → startDecoder f c ≡ accepted (stateAt f (c .head) whole, cursorAt c whole)
+pub start-whole : (f : List ℕ) (c : Cursor) → length f ≤ 65535 → c .head + 3 ≤ length f → startDecoder f c ≡ accepted (stateAt f (c .head) whole, cursorAt c whole)
 start-whole f c size room =
     let low : threeAt f (c .head) ≡ stateAt f (c .head) whole .low = three-number f (c .head) ∙ omega arith in
     rw (three-taken f c size (omega arith), low, add-zero (c .head + 3)) refl

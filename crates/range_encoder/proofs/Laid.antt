@@ -77,7 +77,7 @@ own-room reading n xs all room =
     omega (arith, room, finish-reserved reading (bytesBehind startEncoder xs) s sound (carry-exact xs all .holds .sent), last-bits reading s sound .0)
 
 -- no symbol lowers S
-shifts-behind : (s : EncoderState) (xs : List Sent) → shiftsOf s ≤ shiftsOf (stateBehind s xs)
+pub shifts-behind : (s : EncoderState) (xs : List Sent) → shiftsOf s ≤ shiftsOf (stateBehind s xs)
 unfolding stateBehind
 shifts-behind s [] = omega arith
 shifts-behind s (x ∷ xs) =

@@ -11,6 +11,7 @@ pub mod Sends
 pub mod Decodes
 pub mod Continues
 pub mod OwnBits
+pub mod OwnBytes
 pub mod Laid
 pub mod Forecasts
 pub mod CrateFinish

@@ -49,7 +49,7 @@ ending reading s =
 abbrev pub ended : EncoderState → Ending → EncoderState
 ended s e = changed s (e .value) (s .range) (e .carry)
 
--- "while bits > 0": a shift, and a second for a ninth bit
+-- `while bits > 0`: a shift, and a second for a ninth bit
 abbrev pub pushed : EncoderState → ℕ → EncoderState
 pushed s bits = cond (ltb 8 bits) (shifted (shifted s)) (shifted s)
 

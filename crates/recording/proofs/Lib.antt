@@ -3,3 +3,4 @@ pub mod Theorems
 pub mod Unique
 pub mod Words
 pub mod Fields
+pub mod Found

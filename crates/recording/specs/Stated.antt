@@ -1,10 +1,15 @@
--- What is stated of a walk: its fields lie behind one another without gap or overlap, and 18 names the first malformed one.
+-- What is stated of a walk: its fields lie behind one another without gap or overlap, and 18 names the first malformed one. And of a
+-- field that was written: it is found.
 use Prim.Native.Nat.{ℕ, _+_}
 use mathlib.Core.Path.{_≡_}
 use mathlib.Core.List.{List, [], _∷_, _++_}
 use lib.ListN.{length}
 use Rattle.common.specs.Reply.{accepted, refused, fieldMalformed}
-use Rattle.recording.specs.Tagged.{found, fieldAt, after, endOf}
+use Rattle.common.specs.Tables.{Tables}
+use Rattle.common.specs.declared.configuration.Configuration.{Configuration}
+use Rattle.frame_writer.specs.Frame.{Content, writeFrame}
+use Rattle.recording.specs.Tagged.{tagFrame, found, fieldAt, after, endOf}
+use Rattle.recording.specs.Contents.{contentOf}
 use Rattle.recording.specs.Walk.{Ending, whole, malformed, Walk}
 use Rattle.recording.specs.declared.reader.Before.{Before}
 use Rattle.recording.specs.declared.reader.Field.{Field}
@@ -38,3 +43,12 @@ pub record Walked (most : ℕ) (b : Before) (input : List ℕ) (at : ℕ) (w : W
 -- a walk with fields before it
 abbrev pub ahead : List Field → Walk → Walk
 ahead xs w = record { fields = xs ++ w .fields; ending = w .ending }
+
+-- a frame's field at an offset
+abbrev pub frameField : ℕ → ℕ → Field
+frameField offset bytes = record { tag = tagFrame; at = offset; content = offset + 3; size = bytes }
+
+-- what stands at an offset is the field of a frame of so many bytes, and its content is the frame that is written of k, t and w
+pub record FrameFound (k : Configuration) (t : Tables) (w : Content) (bytes offset most : ℕ) (b : Before) (input : List ℕ) : Type 0 where
+  pub field : fieldAt most b input offset ≡ accepted (found (frameField offset bytes))
+  pub frame : writeFrame k t w bytes ≡ accepted (contentOf input (frameField offset bytes))

@@ -27,7 +27,7 @@ writeField k t w bytes room offset =
     given (not (leb bytes fieldMost && leb (offset + (3 + bytes)) room)) (fieldMalformed offset)
     (andThen (writeFrame k t w bytes) (λ frame. accepted (fieldOf frame)))
 
--- the buffer behind it: refused, it is as it was, "header bytes too"
+-- the buffer behind it: refused, it is as it was, its header bytes too
 abbrev pub bufferBehind : Answer (List ℕ) → ℕ → List ℕ → List ℕ
 bufferBehind (accepted field) offset before = sets before offset field
 bufferBehind (refused r) offset before = before

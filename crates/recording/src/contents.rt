@@ -37,14 +37,7 @@ pub fn configuration_of(content: &[u8]) -> Configuration
 pub fn take_bytes(content: &[u8], out: &mut [u8])
     ensures { λ _. ⌜ now (out .exit) ≡ sets (now (out .entry)) 0 (now (content .entry)) ⌝ }
 {
-    let mut i = 0;
-    while i < out.len() {
-        if content.len() <= i {
-            return;
-        }
-        out[i] = content[i];
-        i += 1;
-    }
+    common::inner::lay_bytes(out, content);
 }
 
 // A table's 16-bit numbers.

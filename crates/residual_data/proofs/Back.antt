@@ -65,10 +65,10 @@ module _ (f : List ℕ) (tail room : ℕ) (lines : List ℤ) (residual : List �
       rw (stands-read f tail sent stands, values, zeros-read f (tail + length sent) left (λ j l m. zeros j l (omega arith))) refl
 
 -- in it: all lines behind what comes late
-abbrev lateAll : List ℤ → ℕ → ℕ → ℕ → AllLate
+abbrev pub lateAll : List ℤ → ℕ → ℕ → ℕ → AllLate
 lateAll lines tail room used = record { lines = lines; tail = tail + used; room = room - used }
 
-same-late : {l m : List ℤ} {t u r s : ℕ} → l ≡ m → t ≡ u → r ≡ s → _≡_ {A = AllLate} (record { lines = l; tail = t; room = r }) (record { lines = m; tail = u; room = s })
+pub same-late : {l m : List ℤ} {t u r s : ℕ} → l ≡ m → t ≡ u → r ≡ s → _≡_ {A = AllLate} (record { lines = l; tail = t; room = r }) (record { lines = m; tail = u; room = s })
 same-late a b c = cc
 
 module _ (f : List ℕ) (lines : List ℤ) (escaped : ℕ → Bool) where
@@ -81,10 +81,13 @@ module _ (f : List ℕ) (lines : List ℤ) (escaped : ℕ → Bool) where
   unfolding lateFrom
   pair-same p x y rest tail room e all later = rw (e, later) refl
 
-  -- what is to be shown of n pairs from pair p on
+  -- what is to be shown of n pairs from pair p on, and of bits that stand
+  abbrev pub Comes : ℕ → ℕ → ℕ → ℕ → Type 0
+  Comes p n tail room =
+      lateFrom f escaped p (earlyLines lines p n) tail room ≡ lateAll (backLines lines (cutLine lines p n room) p n) tail room (length (take room (latePairs lines p n)))
+
   abbrev Backs : ℕ → ℕ → ℕ → ℕ → Type 0
-  Backs p n tail room =
-      Stands f tail (take room (latePairs lines p n)) → lateFrom f escaped p (earlyLines lines p n) tail room ≡ lateAll (backLines lines (cutLine lines p n room) p n) tail room (length (take room (latePairs lines p n)))
+  Backs p n tail room = Stands f tail (take room (latePairs lines p n)) → Comes p n tail room
 
   module _ (p n tail room : ℕ) (same : escaped p ≡ ltb 0 (escapesAt lines p)) where
     abbrev x : ℤ
@@ -110,30 +113,44 @@ module _ (f : List ℕ) (lines : List ℤ) (escaped : ℕ → Bool) where
     both-whole cut h = rw (lt-ltb (2 * p) cut (omega arith), lt-ltb (2 * p + 1) cut (omega arith)) refl
 
     -- a pair that is not escaped
-    when-kept : ltb 0 (escapesAt lines p) ≡ false → Backs (p + 1) n tail room → Backs p (suc n) tail room
-    unfolding earlyLines
-    when-kept e back stands =
-        let taken : take room (latePairs lines p (suc n)) ≡ take room later = ap (take room) (pair-kept lines p n room e) in
-        let start : earlyLines lines p (suc n) ≡ x ∷ y ∷ rest = rw e refl in
-        let at : cutLine lines p (suc n) room ≡ cutLine lines (p + 1) n room = cut-kept lines p n room e in
-        ap (λ (l : List ℤ). lateFrom f escaped p l tail room) start ∙
-        pair-same p x y rest tail room (same ∙ e) _ (back (subst (Stands f tail) taken stands)) ∙
-        rw (taken, at) (same-late (both-whole (cutLine lines (p + 1) n room) (cut-least lines (p + 1) n room)) refl refl)
+    module _ (e : ltb 0 (escapesAt lines p) ≡ false) where
+      kept-taken : take room (latePairs lines p (suc n)) ≡ take room later
+      kept-taken = ap (take room) (pair-kept lines p n room e)
+
+      pub start-kept : earlyLines lines p (suc n) ≡ x ∷ y ∷ rest
+      unfolding earlyLines
+      start-kept = rw e refl
+
+      pub comes-kept : Comes (p + 1) n tail room → Comes p (suc n) tail room
+      comes-kept come =
+          let at : cutLine lines p (suc n) room ≡ cutLine lines (p + 1) n room = cut-kept lines p n room e in
+          ap (λ (l : List ℤ). lateFrom f escaped p l tail room) start-kept ∙
+          pair-same p x y rest tail room (same ∙ e) _ come ∙
+          rw (kept-taken, at) (same-late (both-whole (cutLine lines (p + 1) n room) (cut-least lines (p + 1) n room)) refl refl)
+
+      when-kept : Backs (p + 1) n tail room → Backs p (suc n) tail room
+      when-kept back stands = comes-kept (back (subst (Stands f tail) kept-taken stands))
 
     module _ (e : ltb 0 (escapesAt lines p) ≡ true) where
-      start : earlyLines lines p (suc n) ≡ evened x ∷ evened y ∷ rest
+      pub start : earlyLines lines p (suc n) ≡ evened x ∷ evened y ∷ rest
       unfolding earlyLines
       start = rw e refl
 
       -- the first line's bits do not all have room
-      when-first : room < length a → Backs p (suc n) tail room
-      when-first l stands =
-          let taken : take room (latePairs lines p (suc n)) ≡ take room a = ap (take room) (pair-more lines p n room e) ∙ take-append-le room a (b ++ later) (omega arith) in
-          let size : length (take room (latePairs lines p (suc n))) ≡ room = ap length taken ∙ length-take-le room a (omega arith) in
-          let at : cutLine lines p (suc n) room ≡ 2 * p = cut-first lines p n room e l in
-          ap (λ (l : List ℤ). lateFrom f escaped p l tail room) start ∙
-          pair-late p (evened x) (evened y) rest tail room (evened x) (evened y) (tail + room) 0 (tail + room) 0 (same ∙ e) (line-cut f lines (2 * p) tail room l (subst (Stands f tail) taken stands)) refl _ (late-full f escaped (p + 1) rest (tail + room)) ∙
-          rw (size, at) (same-late (sym start ∙ sym (back-early lines (2 * p) p (suc n) (omega arith))) refl (omega arith))
+      module _ (l : room < length a) where
+        first-taken : take room (latePairs lines p (suc n)) ≡ take room a
+        first-taken = ap (take room) (pair-more lines p n room e) ∙ take-append-le room a (b ++ later) (omega arith)
+
+        pub comes-first : lateLine f (evened x) tail room ≡ held (evened x) (tail + room) 0 → Comes p (suc n) tail room
+        comes-first cut =
+            let size : length (take room (latePairs lines p (suc n))) ≡ room = ap length first-taken ∙ length-take-le room a (omega arith) in
+            let at : cutLine lines p (suc n) room ≡ 2 * p = cut-first lines p n room e l in
+            ap (λ (l : List ℤ). lateFrom f escaped p l tail room) start ∙
+            pair-late p (evened x) (evened y) rest tail room (evened x) (evened y) (tail + room) 0 (tail + room) 0 (same ∙ e) cut refl _ (late-full f escaped (p + 1) rest (tail + room)) ∙
+            rw (size, at) (same-late (sym start ∙ sym (back-early lines (2 * p) p (suc n) (omega arith))) refl (omega arith))
+
+        when-first : Backs p (suc n) tail room
+        when-first stands = comes-first (line-cut f lines (2 * p) tail room l (subst (Stands f tail) first-taken stands))
 
       module _ (h : length a ≤ room) where
         abbrev left : ℕ
@@ -143,32 +160,48 @@ module _ (f : List ℕ) (lines : List ℤ) (escaped : ℕ → Bool) where
         front = ap (take room) (pair-more lines p n room e) ∙ take-whole room a (b ++ later) h
 
         -- the second line's do not
-        when-second : left < length b → Backs p (suc n) tail room
-        unfolding backLines
-        when-second l stands =
-            let taken : take room (latePairs lines p (suc n)) ≡ a ++ take left b = front ∙ ap (λ (r : List Bit). a ++ r) (take-append-le left b later (omega arith)) in
-            let size : length (take room (latePairs lines p (suc n))) ≡ room = omega (arith, ap length taken, length-append a (take left b), length-take-le left b (omega arith)) in
-            let at : cutLine lines p (suc n) room ≡ 2 * p + 1 = cut-second lines p n room e h l in
-            let s = stands-append f tail a (take left b) (subst (Stands f tail) taken stands) in
-            let end : tail + length a + left ≡ tail + room = omega arith in
-            let lines-same : x ∷ evened y ∷ rest ≡ backLines lines (2 * p + 1) p (suc n) =
-            rw (lt-ltb (2 * p) (2 * p + 1) (omega arith), le-ltb (2 * p + 1) (2 * p + 1) (omega arith), e, back-early lines (2 * p + 1) (p + 1) n (omega arith)) refl in
-            ap (λ (l : List ℤ). lateFrom f escaped p l tail room) start ∙
-            pair-late p (evened x) (evened y) rest tail room x (evened y) (tail + length a) left (tail + length a + left) 0 (same ∙ e) (line-whole f lines (2 * p) tail room h (s .0)) (line-cut f lines (2 * p + 1) (tail + length a) left l (s .1)) _ (late-full f escaped (p + 1) rest (tail + length a + left)) ∙
-            rw (size, at) (same-late lines-same end (omega arith))
+        module _ (l : left < length b) where
+          second-taken : take room (latePairs lines p (suc n)) ≡ a ++ take left b
+          second-taken = front ∙ ap (λ (r : List Bit). a ++ r) (take-append-le left b later (omega arith))
+
+          pub comes-second : lateLine f (evened x) tail room ≡ held x (tail + length a) left → lateLine f (evened y) (tail + length a) left ≡ held (evened y) (tail + length a + left) 0 → Comes p (suc n) tail room
+          unfolding backLines
+          comes-second one cut =
+              let size : length (take room (latePairs lines p (suc n))) ≡ room = omega (arith, ap length second-taken, length-append a (take left b), length-take-le left b (omega arith)) in
+              let at : cutLine lines p (suc n) room ≡ 2 * p + 1 = cut-second lines p n room e h l in
+              let end : tail + length a + left ≡ tail + room = omega arith in
+              let lines-same : x ∷ evened y ∷ rest ≡ backLines lines (2 * p + 1) p (suc n) =
+              rw (lt-ltb (2 * p) (2 * p + 1) (omega arith), le-ltb (2 * p + 1) (2 * p + 1) (omega arith), e, back-early lines (2 * p + 1) (p + 1) n (omega arith)) refl in
+              ap (λ (l : List ℤ). lateFrom f escaped p l tail room) start ∙
+              pair-late p (evened x) (evened y) rest tail room x (evened y) (tail + length a) left (tail + length a + left) 0 (same ∙ e) one cut _ (late-full f escaped (p + 1) rest (tail + length a + left)) ∙
+              rw (size, at) (same-late lines-same end (omega arith))
+
+          when-second : Backs p (suc n) tail room
+          when-second stands =
+              let s = stands-append f tail a (take left b) (subst (Stands f tail) second-taken stands) in
+              comes-second (line-whole f lines (2 * p) tail room h (s .0)) (line-cut f lines (2 * p + 1) (tail + length a) left l (s .1))
 
         -- both have room
-        when-later : length b ≤ left → Backs (p + 1) n (tail + length a + length b) (left - length b) → Backs p (suc n) tail room
-        when-later l back stands =
-            let r = left - length b in
-            let taken : take room (latePairs lines p (suc n)) ≡ a ++ (b ++ take r later) = front ∙ ap (λ (q : List Bit). a ++ q) (take-whole left b later l) in
-            let size : length (take room (latePairs lines p (suc n))) ≡ length a + (length b + length (take r later)) = omega (arith, ap length taken, length-append a (b ++ take r later), length-append b (take r later)) in
-            let at : cutLine lines p (suc n) room ≡ cutLine lines (p + 1) n r = cut-later lines p n room e h l in
-            let s = stands-append f tail a (b ++ take r later) (subst (Stands f tail) taken stands) in
-            let t = stands-append f (tail + length a) b (take r later) (s .1) in
-            ap (λ (l : List ℤ). lateFrom f escaped p l tail room) start ∙
-            pair-late p (evened x) (evened y) rest tail room x y (tail + length a) left (tail + length a + length b) r (same ∙ e) (line-whole f lines (2 * p) tail room h (s .0)) (line-whole f lines (2 * p + 1) (tail + length a) left l (t .0)) _ (back (t .1)) ∙
-            rw (size, at) (same-late (both-whole (cutLine lines (p + 1) n r) (cut-least lines (p + 1) n r)) (omega arith) (omega arith))
+        module _ (l : length b ≤ left) where
+          abbrev r : ℕ
+          r = left - length b
+
+          both-taken : take room (latePairs lines p (suc n)) ≡ a ++ (b ++ take r later)
+          both-taken = front ∙ ap (λ (q : List Bit). a ++ q) (take-whole left b later l)
+
+          pub comes-later : lateLine f (evened x) tail room ≡ held x (tail + length a) left → lateLine f (evened y) (tail + length a) left ≡ held y (tail + length a + length b) r → Comes (p + 1) n (tail + length a + length b) r → Comes p (suc n) tail room
+          comes-later one two come =
+              let size : length (take room (latePairs lines p (suc n))) ≡ length a + (length b + length (take r later)) = omega (arith, ap length both-taken, length-append a (b ++ take r later), length-append b (take r later)) in
+              let at : cutLine lines p (suc n) room ≡ cutLine lines (p + 1) n r = cut-later lines p n room e h l in
+              ap (λ (l : List ℤ). lateFrom f escaped p l tail room) start ∙
+              pair-late p (evened x) (evened y) rest tail room x y (tail + length a) left (tail + length a + length b) r (same ∙ e) one two _ come ∙
+              rw (size, at) (same-late (both-whole (cutLine lines (p + 1) n r) (cut-least lines (p + 1) n r)) (omega arith) (omega arith))
+
+          when-later : Backs (p + 1) n (tail + length a + length b) r → Backs p (suc n) tail room
+          when-later back stands =
+              let s = stands-append f tail a (b ++ take r later) (subst (Stands f tail) both-taken stands) in
+              let t = stands-append f (tail + length a) b (take r later) (s .1) in
+              comes-later (line-whole f lines (2 * p) tail room h (s .0)) (line-whole f lines (2 * p + 1) (tail + length a) left l (t .0)) (back (t .1))
 
   pub late-back : (p n tail room : ℕ) → ((q : ℕ) → p ≤ q → q < p + n → escaped q ≡ ltb 0 (escapesAt lines q)) → Backs p n tail room
   unfolding latePairs earlyLines backLines lateFrom

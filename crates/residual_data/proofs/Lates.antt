@@ -74,7 +74,7 @@ pub line-room : (f : List ℕ) (x : ℤ) (tail room : ℕ) → lateLine f x tail
 line-room f x tail room =
     line-cases f x tail room (λ l. l .room ≤ room) (λ e. omega arith) (λ h. omega arith) (λ h. omega arith) (λ e. omega arith) (λ h y e. omega arith)
 
-larger-size : (x : ℤ) → natAbs (larger x) ≡ suc (natAbs x)
+pub larger-size : (x : ℤ) → natAbs (larger x) ≡ suc (natAbs x)
 larger-size (pos n) = refl
 larger-size (negsuc n) = refl
 

@@ -11,3 +11,4 @@ pub mod Puts
 pub mod Evened
 pub mod Cuts
 pub mod Back
+pub mod Again

@@ -17,7 +17,7 @@ use Rattle.common.proofs.Replies.{given-split, accepted-same}
 use Rattle.buffer_reader.specs.Tail.{tailBit}
 use Rattle.buffer_reader.specs.Reads.{takeBit, bitBeyond}
 use Rattle.buffer_reader.specs.declared.Cursor.{Cursor}
-use Rattle.buffer_reader.proofs.Answers.{bit-taken}
+use Rattle.buffer_reader.proofs.Answers.{bit-there, bit-taken}
 use Rattle.residual_data.specs.Residual.{usedBits, available}
 
 -- between two symbols the floor of the range's logarithm is at most 23
@@ -59,6 +59,4 @@ module _ (c : Cursor) (range : ℕ) (least : 0x10000 ≤ range) (most : range �
     pub never-refused : length f ≤ 65535 → 3 ≤ c .head → (j : ℕ) → j < 8 * length f - usedBits c range → takeBit f (ahead j) ≡ accepted (eqb (tailBit f (c .tail + j)) 1, record { head = c .head; tail = c .tail + j + 1 })
     never-refused short three j h =
         let log : floorLog2 range ≤ 23 = log-most range least most in
-        let place = (c .tail + j) / 8 in
-        let there : bitBeyond (length f) (ahead j) ≡ false = rw (le-ltb (length f + 2) (c .head + place) (omega arith), lt-leb (length f) place (omega arith)) refl in
-        bit-taken f (ahead j) short there
+        bit-taken f (ahead j) short (bit-there f (ahead j) (omega arith) (omega arith))

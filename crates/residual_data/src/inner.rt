@@ -1,4 +1,5 @@
-// The stage's parts, which the frame's reader calls behind its checks. No bit is refused here: the room says that its byte is there.
+// The stage's parts, which the frame's reader and its writer call behind their checks. No bit is refused here: the room says that its
+// byte is there.
 ghost use mathlib.Core.Path.{_≡_};
 ghost use Prim.Native.Nat.{_+_, _*_, _%_, _≤_, _<_, min};
 ghost use mathlib.Core.Bool.{cond};
@@ -257,7 +258,7 @@ pub fn zero_flag(
     noise == 7
 }
 
-// What is written. How many lines are not 0.
+// How many lines are not 0, of those that are written.
 pub fn nonzero_written(lines: &[i16]) -> usize
     ensures { λ r. ⌜ r ≡ Residual·nonzero (now (lines .entry)) ⌝ }
 {

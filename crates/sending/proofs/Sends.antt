@@ -18,7 +18,8 @@ use Rattle.range_encoder.specs.Runs.{Passes, AllPass, none, more, stateBehind}
 use Rattle.range_encoder.specs.Private.{Fits}
 use Rattle.range_encoder.specs.declared.EncoderState.{EncoderState}
 use Rattle.range_encoder.proofs.Symbols.{symbol-shares}
-use Rattle.range_encoder.proofs.States.{fits-encoded, shifts-turn, shifts-turn-most}
+use Rattle.range_encoder.proofs.States.{fits-encoded, shifts-turn}
+use Rattle.range_encoder.proofs.Laid.{shifts-behind}
 use Rattle.sending.specs.Sending.{sent}
 use Rattle.sending.specs.Private.{counted, recounted, widerCount, countedBy, sentOne, laidOne, sentAll, laidAll, Ready}
 
@@ -117,14 +118,6 @@ fits-sent false s x h p =
 shifts-sent : (writing : Bool) (s : EncoderState) (x : Sent) → shiftsOf (sentOne writing s x) ≤ shiftsOf s + 2
 shifts-sent true s x = shifts-encoded s (cumulativeOf x) (frequencyOf x)
 shifts-sent false s x = omega (arith, shifts-counted-by s (frequencyOf x), ap shiftsOf (counted-by s x))
-
--- no symbol lowers S
-pub shifts-behind : (s : EncoderState) (xs : List Sent) → shiftsOf s ≤ shiftsOf (stateBehind s xs)
-unfolding stateBehind
-shifts-behind s [] = omega arith
-shifts-behind s (x ∷ xs) =
-    let a = symbolAdded s (cumulativeOf x) (frequencyOf x) in
-    omega (arith, shifts-turn-most a, shifts-turn-most (turn a), shifts-behind (turn (turn a)) xs)
 
 -- a list that passes: its first, its rest, its two parts
 pub pass-first : {x : Sent} {xs : List Sent} → AllPass (x ∷ xs) → Passes x

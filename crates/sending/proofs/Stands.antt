@@ -2,19 +2,21 @@
 -- them, where no byte is shared. Assumes nothing.
 use Prim.Native.Nat.{ℕ, zero, suc, _+_, _*_, _≤_, _<_}
 use mathlib.Core.Path.{_≡_, refl, ap, _∙_}
+use mathlib.Core.Bool.{Bool, true}
 use mathlib.Core.List.{List, [], _∷_, _++_}
 use mathlib.Core.Logic.{_⊎_, inl, inr, ⊎-elim}
 use native.Mathlib.Omega.{arith}
-use lib.ListN.{length, take}
+use lib.ListN.{length, take, replicate, length-replicate}
 use Rattle.buffer_reader.specs.Tail.{tailBit, Bytes}
 use Rattle.buffer_writer.specs.Writes.{putBit}
 use Rattle.buffer_writer.proofs.Places.{put-length, put-same, put-other, put-bytes}
 use Rattle.range_encoder.specs.Interval.{Sent}
-use Rattle.range_encoder.specs.Runs.{stateBehind}
+use Rattle.range_encoder.specs.Runs.{AllPass, stateBehind}
 use Rattle.range_encoder.specs.Theory.{laidBehind}
 use Rattle.range_encoder.specs.declared.EncoderState.{EncoderState}
 use Rattle.range_encoder.proofs.Laid.{laid-bit}
-use Rattle.sending.specs.Sending.{Bit, putBits, Stands}
+use Rattle.range_encoder.proofs.OwnBytes.{repeated, own-laid}
+use Rattle.sending.specs.Sending.{Owner, Bit, putBits, laid, Stands}
 use Rattle.sending.specs.Private.{AllBits, no-bits, more-bits}
 
 -- bits put before the symbols are sent, or behind them
@@ -51,6 +53,13 @@ puts-bytes f i [] all room bytes = bytes
 puts-bytes f i (b ∷ bs) (more-bits low rest) room bytes =
     puts-bytes (putBit f i (b .value)) (i + 1) bs rest (omega (arith, room, put-length f i (b .value))) (put-bytes f i (b .value) (omega (arith, room)) low bytes)
 
+-- a frame that is laid is one of bytes
+pub laid-bytes : (reading bytes : ℕ) (symbols : List Sent) (bits : List Bit) → AllPass symbols → AllBits bits → length bits ≤ 8 * bytes → Bytes (laid reading bytes symbols bits)
+laid-bytes reading bytes symbols bits all low room =
+    let zeros : List ℕ = replicate bytes 0 in
+    let size : length zeros ≡ bytes = length-replicate bytes 0 in
+    own-laid reading symbols all (putBits zeros 0 bits) 0 (puts-bytes zeros 0 bits low (omega (arith, room, size)) (repeated bytes 0 (omega arith)))
+
 -- what stands in a frame stands in any that has the same bits there
 pub stands-same : (f g : List ℕ) (i : ℕ) (bits : List Bit) → ((j : ℕ) → i ≤ j → j < i + length bits → tailBit g j ≡ tailBit f j) → Stands f i bits → Stands g i bits
 unfolding Stands
@@ -65,6 +74,26 @@ unfolding Stands
 stands-append f i [] ys h = (tt, let e : i + 0 ≡ i = omega arith in rw e h)
 stands-append f i (x ∷ xs) ys h =
     let rest = stands-append f (i + 1) xs ys (h .1) in
+    let e : i + 1 + length xs ≡ i + length (x ∷ xs) = omega arith in
+    ((h .0, rest .0), rw (← e) (rest .1))
+
+pub stands-behind : (f : List ℕ) (i : ℕ) (xs ys : List Bit) → Stands f i xs → Stands f (i + length xs) ys → Stands f i (xs ++ ys)
+unfolding Stands
+stands-behind f i [] ys h k = let e : i + 0 ≡ i = omega arith in rw e at k
+stands-behind f i (x ∷ xs) ys h k =
+    let e : i + length (x ∷ xs) ≡ i + 1 + length xs = omega arith in
+    (h .0, stands-behind f (i + 1) xs ys (h .1) (rw e at k))
+
+-- those of some owners stand
+unfoldable pub StandFor : (Owner → Bool) → List ℕ → ℕ → List Bit → Type 0
+StandFor spared f i [] = Unit {0}
+StandFor spared f i (b ∷ bs) = (spared (b .owner) ≡ true → tailBit f i ≡ b .value) × StandFor spared f (i + 1) bs
+
+pub stand-for-append : (spared : Owner → Bool) (f : List ℕ) (i : ℕ) (xs ys : List Bit) → StandFor spared f i (xs ++ ys) → StandFor spared f i xs × StandFor spared f (i + length xs) ys
+unfolding StandFor
+stand-for-append spared f i [] ys h = (tt, let e : i + 0 ≡ i = omega arith in rw e h)
+stand-for-append spared f i (x ∷ xs) ys h =
+    let rest = stand-for-append spared f (i + 1) xs ys (h .1) in
     let e : i + 1 + length xs ≡ i + length (x ∷ xs) = omega arith in
     ((h .0, rest .0), rw (← e) (rest .1))
 

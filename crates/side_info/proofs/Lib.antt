@@ -6,6 +6,7 @@ pub mod Within
 pub mod Joints
 pub mod Layouts
 pub mod Lengths
+pub mod Sides
 pub mod Depends
 pub mod SideLimits
 pub mod Image

@@ -20,7 +20,7 @@ use Rattle.buffer_reader.specs.Steps.{Reading, next, ifPresent, asNumber}
 use Rattle.buffer_reader.specs.declared.Cursor.{Cursor}
 use Rattle.buffer_reader.proofs.Tails.{field-one, field-none, bit-lt}
 use Rattle.buffer_reader.proofs.Rooms.{listed-low, wanted-holds}
-use Rattle.buffer_reader.proofs.Answers.{bits-taken, bit-taken}
+use Rattle.buffer_reader.proofs.Answers.{bits-taken, bit-there, bit-taken}
 use Rattle.side_info.specs.Joint.{partOf, jointOf}
 use Rattle.side_info.specs.Reader.{sideField, sideFlag, bandwidthBits, lastnzBits, partBits, jointBits, readBandwidth, readLastnz, readJoint}
 use Rattle.side_info.specs.Reader.{readAll, readSide}
@@ -71,8 +71,7 @@ module _ (g : List ℕ) (h most : ℕ) (size : length g ≤ 65535) (room : h + 4
 
   flag-step : (t v : ℕ) → t ≤ most → field g t 1 ≡ v → sideFlag g (at h t) ≡ accepted (v, at h (t + 1))
   flag-step t v l e =
-      let inside : bitBeyond (length g) (at h t) ≡ false =
-      or-first-fails (leb (length g) (t / 8)) (le-ltb (length g + 2) (h + t / 8) (omega arith)) ∙ lt-leb (length g) (t / 8) (omega arith) in
+      let inside = bit-there g (at h t) (omega arith) (omega arith) in
       let value : cond (eqb (tailBit g t) 1) 1 0 ≡ v = bit-number (tailBit g t) (bit-lt g t) ∙ sym (field-one g t) ∙ e in
       ap (λ a. within side (andThen a asNumber)) (bit-taken g (at h t) size inside) ∙ ap (λ (x : ℕ). accepted (x, at h (t + 1))) value
 

@@ -29,7 +29,7 @@ use Rattle.spectral_data.specs.Spectral.{Levels, lowBits, readLevels, re
 use Rattle.spectral_data.specs.Sent.{sentEscapes, sentPair, sentPairs, lowAt, lowsFrom, early, signAt, pairBits, pairsBits, pairAt, pairsOf}
 use Rattle.spectral_data.specs.Private.{signsBy, Modest}
 use Rattle.spectral_data.proofs.Sizes.{signed-size}
-use Rattle.sending.proofs.Standing.{Holding, Back, back-done, back-onward, back-last, back-bit, back-symbol}
+use Rattle.sending.proofs.Standing.{Holding, Room, Came, came-whole, placeAt, Back, back-done, back-onward, back-last, back-bit, back-symbol}
 
 -- ---- magnitudes
 
@@ -95,7 +95,7 @@ abbrev pub secondOf : List ℤ → ℕ → ℕ
 secondOf lines p = magnitudeAt lines (2 * p + 1)
 
 module _ (lines : List ℤ) (modest : Modest lines) (p : ℕ) where
-  least : Escaped (firstOf lines p) (secondOf lines p) (escapesAt lines p)
+  pub least : Escaped (firstOf lines p) (secondOf lines p) (escapesAt lines p)
   least = escapes-law (firstOf lines p) (secondOf lines p) (omega (arith, modest (2 * p))) (omega (arith, modest (2 * p + 1)))
 
   pub pair-escapes : escapesAt lines p ≤ 13
@@ -117,86 +117,90 @@ module _ (lines : List ℤ) (modest : Modest lines) (p : ℕ) where
       ap (λ (q : ℕ). nextContext context q (secondPart symbol) (escapesAt lines p)) first-part
       ∙ ap (λ (q : ℕ). nextContext context (shifted (firstOf lines p) (escapesAt lines p)) q (escapesAt lines p)) second-part
 
+-- where tail bits are asked for: in pairs before an end, at levels up to a pair's escapes
+abbrev pub asked : List ℤ → ℕ → ℕ → ℕ → Type 0
+asked lines end p level = (p < end) × (level ≤ escapesAt lines p)
+
 -- what is read of its levels
 abbrev levelsRead : Bool → List ℤ → ℕ → Levels
 levelsRead lsb lines p =
     levelsAt lsb (escapesAt lines p) (pairSymbol (firstOf lines p) (secondOf lines p)) (firstOf lines p) (secondOf lines p)
 
-module _ (f : List ℕ) (bytes : Bytes f) (short : length f ≤ 65535) where
+module _ (f : List ℕ) (bytes : Bytes f) (short : length f ≤ 65535) (At : ℕ → ℕ → Type 0) where
   -- a line's sign, where its magnitude has one
-  sign-back : (p level k m : ℕ) (z : ℤ) → Back f bytes short (readSign p level m) [] (cond (ltb 0 m) (owned (sign k) (minus z) ∷ []) []) (signedAs z m)
-  sign-back p level k zero z = rw (signed-zero z) (back-done f bytes short (pos 0))
-  sign-back p level k (suc m) z =
+  sign-back : (p level : ℕ) → At p level → (k m : ℕ) (z : ℤ) → Back f bytes short At (readSign p level m) [] (cond (ltb 0 m) (owned (sign k) (minus z) ∷ []) []) (signedAs z m)
+  sign-back p level asked k zero z = rw (signed-zero z) (back-done f bytes short At (pos 0))
+  sign-back p level asked k (suc m) z =
       rw (lt-ltb 0 (suc m) (omega arith))
-      (back-onward f bytes short (met (bit p level) tailBitBy) (λ minus. done (cond (eqb minus 1) (negℤ (pos (suc m))) (pos (suc m))))
-      (back-bit f bytes short (bit p level) (owned (sign k) (minus z)) (minus-low z))
-      (back-done f bytes short (signedAs z (suc m))))
+      (back-onward f bytes short At (met (bit p level) tailBitBy) (λ minus. done (cond (eqb minus 1) (negℤ (pos (suc m))) (pos (suc m))))
+      (back-bit f bytes short At p level asked (owned (sign k) (minus z)) (minus-low z))
+      (back-done f bytes short At (signedAs z (suc m))))
 
   -- two bits at a level
-  bits-back : (p level : ℕ) (x y : Bit) → x .value < 2 → y .value < 2 →
-      Back f bytes short {A = ℕ × ℕ} (onward (met (bit p level) tailBitBy) (λ a. onward (met (bit p level) tailBitBy) (λ b. done (a, b)))) [] (x ∷ y ∷ []) (x .value, y .value)
-  bits-back p level x y sx sy =
-      back-onward f bytes short (met (bit p level) tailBitBy) (λ a. onward (met (bit p level) tailBitBy) (λ b. done (a, b)))
-      (back-bit f bytes short (bit p level) x sx)
-      (back-onward f bytes short (met (bit p level) tailBitBy) (λ b. done (x .value, b))
-      (back-bit f bytes short (bit p level) y sy)
-      (back-done f bytes short (x .value, y .value)))
+  bits-back : (p level : ℕ) → At p level → (x y : Bit) → x .value < 2 → y .value < 2 →
+      Back f bytes short At {A = ℕ × ℕ} (onward (met (bit p level) tailBitBy) (λ a. onward (met (bit p level) tailBitBy) (λ b. done (a, b)))) [] (x ∷ y ∷ []) (x .value, y .value)
+  bits-back p level asked x y sx sy =
+      back-onward f bytes short At (met (bit p level) tailBitBy) (λ a. onward (met (bit p level) tailBitBy) (λ b. done (a, b)))
+      (back-bit f bytes short At p level asked x sx)
+      (back-onward f bytes short At (met (bit p level) tailBitBy) (λ b. done (x .value, b))
+      (back-bit f bytes short At p level asked y sy)
+      (back-done f bytes short At (x .value, y .value)))
 
   bit-small : (a level : ℕ) → a / 2 ^ level % 2 < 2
   bit-small a level = mod-lt (a / 2 ^ level) (omega arith)
 
-  low-back : (lsb : Bool) (p k a b level : ℕ) → Back f bytes short {A = ℕ × ℕ} (lowBits lsb p level) [] (lowAt lsb k a b level) (cleared lsb a / 2 ^ level % 2, cleared lsb b / 2 ^ level % 2)
-  low-back false p k a b level =
-      bits-back p level (owned (low k level) (a / 2 ^ level % 2)) (owned (low (k + 1) level) (b / 2 ^ level % 2)) (bit-small a level) (bit-small b level)
-  low-back true p k a b zero =
+  low-back : (lsb : Bool) (p k a b level : ℕ) → At p level → Back f bytes short At {A = ℕ × ℕ} (lowBits lsb p level) [] (lowAt lsb k a b level) (cleared lsb a / 2 ^ level % 2, cleared lsb b / 2 ^ level % 2)
+  low-back false p k a b level asked =
+      bits-back p level asked (owned (low k level) (a / 2 ^ level % 2)) (owned (low (k + 1) level) (b / 2 ^ level % 2)) (bit-small a level) (bit-small b level)
+  low-back true p k a b zero asked =
       let first : a / 2 * 2 / 2 ^ 0 % 2 ≡ 0 = omega arith in
       let second : b / 2 * 2 / 2 ^ 0 % 2 ≡ 0 = omega arith in
-      rw (first, second) (back-done f bytes short (0, 0))
-  low-back true p k a b (suc level) =
+      rw (first, second) (back-done f bytes short At (0, 0))
+  low-back true p k a b (suc level) asked =
       rw (ne-eqb (suc level) 0 (omega arith), cleared-high a level, cleared-high b level)
-      (bits-back p (suc level) (owned (low k (suc level)) (a / 2 ^ suc level % 2)) (owned (low (k + 1) (suc level)) (b / 2 ^ suc level % 2)) (bit-small a (suc level)) (bit-small b (suc level)))
+      (bits-back p (suc level) asked (owned (low k (suc level)) (a / 2 ^ suc level % 2)) (owned (low (k + 1) (suc level)) (b / 2 ^ suc level % 2)) (bit-small a (suc level)) (bit-small b (suc level)))
 
   module _ (lookup frequencies : List ℕ) (lsb : Bool) (p t : ℕ) where
     abbrev lastAt : ℕ → ℕ → Sent
     lastAt level last = sent (rowAt 17 (rowOf lookup t level) frequencies) last
 
     -- n escapes from a level on, and the last symbol
-    levels-back : (k a b last : ℕ) → last < escapeSymbol → (n left level : ℕ) → n < left →
-        Back f bytes short (readLevels lookup frequencies lsb p t left level (cleared lsb a % 2 ^ level) (cleared lsb b % 2 ^ level))
+    levels-back : (k a b last : ℕ) → last < escapeSymbol → (n left level : ℕ) → n < left → ((l : ℕ) → l ≤ level + n → At p l) →
+        Back f bytes short At (readLevels lookup frequencies lsb p t left level (cleared lsb a % 2 ^ level) (cleared lsb b % 2 ^ level))
         (sentEscapes lookup frequencies t level n ++ (lastAt (level + n) last ∷ [])) (lowsFrom lsb k a b level n) (levelsAt lsb (level + n) last a b)
     unfolding readLevels sentEscapes lowsFrom
-    levels-back k a b last small n zero level h = absurd (omega arith)
-    levels-back k a b last small zero (suc left) level h =
+    levels-back k a b last small n zero level h asked = absurd (omega arith)
+    levels-back k a b last small zero (suc left) level h asked =
         rw (add-zero level)
-        (back-onward f bytes short (met (symbol p level) (symbolBy (rowAt 17 (rowOf lookup t level) frequencies))) _
-        (back-symbol f bytes short (symbol p level) (lastAt level last))
-        (rw (lt-ltb last escapeSymbol small) (back-done f bytes short (levelsAt lsb level last a b))))
-    levels-back k a b last small (suc n) (suc left) level h =
+        (back-onward f bytes short At (met (symbol p level) (symbolBy (rowAt 17 (rowOf lookup t level) frequencies))) _
+        (back-symbol f bytes short At (symbol p level) (lastAt level last))
+        (rw (lt-ltb last escapeSymbol small) (back-done f bytes short At (levelsAt lsb level last a b))))
+    levels-back k a b last small (suc n) (suc left) level h asked =
         let same : level + suc n ≡ level + 1 + n = omega arith in
         rw same
-        (back-onward f bytes short (met (symbol p level) (symbolBy (rowAt 17 (rowOf lookup t level) frequencies))) _
-        (back-symbol f bytes short (symbol p level) (lastAt level escapeSymbol))
-        (back-onward f bytes short (lowBits lsb p level) _ (low-back lsb p k a b level)
-        (rw (low-next (cleared lsb a) level, low-next (cleared lsb b) level) (levels-back k a b last small n left (level + 1) (omega arith)))))
+        (back-onward f bytes short At (met (symbol p level) (symbolBy (rowAt 17 (rowOf lookup t level) frequencies))) _
+        (back-symbol f bytes short At (symbol p level) (lastAt level escapeSymbol))
+        (back-onward f bytes short At (lowBits lsb p level) _ (low-back lsb p k a b level (asked level (omega arith)))
+        (rw (low-next (cleared lsb a) level, low-next (cleared lsb b) level) (levels-back k a b last small n left (level + 1) (omega arith) (λ l m. asked l (omega arith))))))
 
   -- a line by the magnitude that is read
-  line-read : (lsb : Bool) (p level k m n : ℕ) (z : ℤ) → m ≡ earlyMagnitude lsb n (natAbs z) →
-      Back f bytes short (readSign p level m) [] (cond (ltb 0 (early lsb n (natAbs z))) (owned (sign k) (minus z) ∷ []) []) (earlyLine lsb n z)
-  line-read lsb p level k m n z e =
+  line-read : (lsb : Bool) (p level : ℕ) → At p level → (k m n : ℕ) (z : ℤ) → m ≡ earlyMagnitude lsb n (natAbs z) →
+      Back f bytes short At (readSign p level m) [] (cond (ltb 0 (early lsb n (natAbs z))) (owned (sign k) (minus z) ∷ []) []) (earlyLine lsb n z)
+  line-read lsb p level asked k m n z e =
       rw (e, early-sign lsb n (natAbs z))
-      (subst (Back f bytes short (readSign p level (earlyMagnitude lsb n (natAbs z))) [] _) (line-back lsb n z) (sign-back p level k (earlyMagnitude lsb n (natAbs z)) z))
+      (subst (Back f bytes short At (readSign p level (earlyMagnitude lsb n (natAbs z))) [] _) (line-back lsb n z) (sign-back p level asked k (earlyMagnitude lsb n (natAbs z)) z))
 
-  module _ (lsb : Bool) (lines : List ℤ) (modest : Modest lines) (p : ℕ) where
-    signs-back : Back f bytes short (signsBy p (levelsRead lsb lines p)) [] (signAt lsb (escapesAt lines p) lines (2 * p) ++ signAt lsb (escapesAt lines p) lines (2 * p + 1)) (pairAt lsb lines p)
+  module _ (lsb : Bool) (lines : List ℤ) (modest : Modest lines) (p : ℕ) (asked : (level : ℕ) → level ≤ escapesAt lines p → At p level) where
+    signs-back : Back f bytes short At (signsBy p (levelsRead lsb lines p)) [] (signAt lsb (escapesAt lines p) lines (2 * p) ++ signAt lsb (escapesAt lines p) lines (2 * p + 1)) (pairAt lsb lines p)
     signs-back =
         let n = escapesAt lines p in
-        back-onward f bytes short (readSign p n (levelsRead lsb lines p .lowFirst + firstPart (levelsRead lsb lines p .last) * 2 ^ n)) _
-        (line-read lsb p n (2 * p) _ n (lineAt lines (2 * p)) (ap (λ (q : ℕ). cleared lsb (firstOf lines p) % 2 ^ n + q * 2 ^ n) (first-part lines modest p) ∙ magnitude-back lsb n (firstOf lines p)))
-        (back-last f bytes short (readSign p n (levelsRead lsb lines p .lowSecond + secondPart (levelsRead lsb lines p .last) * 2 ^ n)) _
-        (line-read lsb p n (2 * p + 1) _ n (lineAt lines (2 * p + 1)) (ap (λ (q : ℕ). cleared lsb (secondOf lines p) % 2 ^ n + q * 2 ^ n) (second-part lines modest p) ∙ magnitude-back lsb n (secondOf lines p))))
+        back-onward f bytes short At (readSign p n (levelsRead lsb lines p .lowFirst + firstPart (levelsRead lsb lines p .last) * 2 ^ n)) _
+        (line-read lsb p n (asked n (omega arith)) (2 * p) _ n (lineAt lines (2 * p)) (ap (λ (q : ℕ). cleared lsb (firstOf lines p) % 2 ^ n + q * 2 ^ n) (first-part lines modest p) ∙ magnitude-back lsb n (firstOf lines p)))
+        (back-last f bytes short At (readSign p n (levelsRead lsb lines p .lowSecond + secondPart (levelsRead lsb lines p .last) * 2 ^ n)) _
+        (line-read lsb p n (asked n (omega arith)) (2 * p + 1) _ n (lineAt lines (2 * p + 1)) (ap (λ (q : ℕ). cleared lsb (secondOf lines p) % 2 ^ n + q * 2 ^ n) (second-part lines modest p) ∙ magnitude-back lsb n (secondOf lines p))))
 
     module _ (lookup frequencies : List ℕ) (t : ℕ) where
-      whole-levels : Back f bytes short (readLevels lookup frequencies lsb p t 14 0 0 0) (sentPair lookup frequencies t (firstOf lines p) (secondOf lines p)) (lowsFrom lsb (2 * p) (firstOf lines p) (secondOf lines p) 0 (escapesAt lines p)) (levelsRead lsb lines p)
+      whole-levels : Back f bytes short At (readLevels lookup frequencies lsb p t 14 0 0 0) (sentPair lookup frequencies t (firstOf lines p) (secondOf lines p)) (lowsFrom lsb (2 * p) (firstOf lines p) (secondOf lines p) 0 (escapesAt lines p)) (levelsRead lsb lines p)
       whole-levels =
           let n = escapesAt lines p in
           let first : cleared lsb (firstOf lines p) % 2 ^ 0 ≡ 0 = omega arith in
@@ -204,41 +208,49 @@ module _ (f : List ℕ) (bytes : Bytes f) (short : length f ≤ 65535) where
           rw (first, second, zero-add n) at
           (levels-back lookup frequencies lsb p t (2 * p) (firstOf lines p) (secondOf lines p) (pairSymbol (firstOf lines p) (secondOf lines p))
           (pair-symbol-low (firstOf lines p) (secondOf lines p) (omega (arith, modest (2 * p))) (omega (arith, modest (2 * p + 1)))) n 14 0
-          (omega (arith, pair-escapes lines modest p)))
+          (omega (arith, pair-escapes lines modest p)) (λ l m. asked l (omega arith)))
 
-      pub pair-back : Back f bytes short (readPair lookup frequencies lsb p t) (sentPair lookup frequencies t (firstOf lines p) (secondOf lines p)) (pairBits lsb lines p) (pairAt lsb lines p)
+      pub pair-back : Back f bytes short At (readPair lookup frequencies lsb p t) (sentPair lookup frequencies t (firstOf lines p) (secondOf lines p)) (pairBits lsb lines p) (pairAt lsb lines p)
       pair-back =
           let n = escapesAt lines p in
           let symbols = sentPair lookup frequencies t (firstOf lines p) (secondOf lines p) in
           let lows = lowsFrom lsb (2 * p) (firstOf lines p) (secondOf lines p) 0 n in
-          subst (λ (bits : List Bit). Back f bytes short (readPair lookup frequencies lsb p t) symbols bits (pairAt lsb lines p)) (sym (append-assoc lows (signAt lsb n lines (2 * p)) (signAt lsb n lines (2 * p + 1))))
-          (subst (λ (xs : List Sent). Back f bytes short (readPair lookup frequencies lsb p t) xs (lows ++ (signAt lsb n lines (2 * p) ++ signAt lsb n lines (2 * p + 1))) (pairAt lsb lines p)) (append-nil symbols)
-          (back-onward f bytes short (readLevels lookup frequencies lsb p t 14 0 0 0) (signsBy p) whole-levels signs-back))
+          subst (λ (bits : List Bit). Back f bytes short At (readPair lookup frequencies lsb p t) symbols bits (pairAt lsb lines p)) (sym (append-assoc lows (signAt lsb n lines (2 * p)) (signAt lsb n lines (2 * p + 1))))
+          (subst (λ (xs : List Sent). Back f bytes short At (readPair lookup frequencies lsb p t) xs (lows ++ (signAt lsb n lines (2 * p) ++ signAt lsb n lines (2 * p + 1))) (pairAt lsb lines p)) (append-nil symbols)
+          (back-onward f bytes short At (readLevels lookup frequencies lsb p t 14 0 0 0) (signsBy p) whole-levels signs-back))
 
-  module _ (lookup frequencies : List ℕ) (lsb : Bool) (rate ne : ℕ) (lines : List ℤ) (modest : Modest lines) where
-    pub pairs-given : (p n context : ℕ) → Back f bytes short (readPairs lookup frequencies lsb rate ne p n context) (sentPairs lookup frequencies rate ne lines p n context) (pairsBits lsb lines p n) (pairsOf lsb lines p n)
-    unfolding readPairs sentPairs pairsBits pairsOf
-    pairs-given p zero context = back-done f bytes short []
-    pairs-given p (suc n) context =
-        let a = magnitudeAt lines (2 * p) in
-        let b = magnitudeAt lines (2 * p + 1) in
-        back-onward f bytes short (readPair lookup frequencies lsb p (lookupStart context rate ne (2 * p))) _
-        (pair-back lsb lines modest p lookup frequencies (lookupStart context rate ne (2 * p)))
-        (back-last f bytes short (readPairs lookup frequencies lsb rate ne (p + 1) n _) (λ rest. pairAt lsb lines p ∷ rest)
-        (subst (λ (q : ℕ). Back f bytes short (readPairs lookup frequencies lsb rate ne (p + 1) n q) (sentPairs lookup frequencies rate ne lines (p + 1) n (contextBehind context a b)) (pairsBits lsb lines (p + 1) n) (pairsOf lsb lines (p + 1) n))
-        (sym (context-back lines modest p context)) (pairs-given (p + 1) n (contextBehind context a b))))
+module _ (f : List ℕ) (bytes : Bytes f) (short : length f ≤ 65535) (lookup frequencies : List ℕ) (lsb : Bool) (rate ne : ℕ) (lines : List ℤ) (modest : Modest lines) where
+  pub pairs-given : (end p n context : ℕ) → p + n ≤ end →
+      Back f bytes short (asked lines end) (readPairs lookup frequencies lsb rate ne p n context) (sentPairs lookup frequencies rate ne lines p n context) (pairsBits lsb lines p n) (pairsOf lsb lines p n)
+  unfolding readPairs sentPairs pairsBits pairsOf
+  pairs-given end p zero context h = back-done f bytes short (asked lines end) []
+  pairs-given end p (suc n) context h =
+      let a = magnitudeAt lines (2 * p) in
+      let b = magnitudeAt lines (2 * p + 1) in
+      back-onward f bytes short (asked lines end) (readPair lookup frequencies lsb p (lookupStart context rate ne (2 * p))) _
+      (pair-back f bytes short (asked lines end) lsb lines modest p (λ level l. (omega arith, l)) lookup frequencies (lookupStart context rate ne (2 * p)))
+      (back-last f bytes short (asked lines end) (readPairs lookup frequencies lsb rate ne (p + 1) n _) (λ rest. pairAt lsb lines p ∷ rest)
+      (subst (λ (q : ℕ). Back f bytes short (asked lines end) (readPairs lookup frequencies lsb rate ne (p + 1) n q) (sentPairs lookup frequencies rate ne lines (p + 1) n (contextBehind context a b)) (pairsBits lsb lines (p + 1) n) (pairsOf lsb lines (p + 1) n))
+      (sym (context-back lines modest p context)) (pairs-given end (p + 1) n (contextBehind context a b) (omega arith))))
 
-    -- the stage on a frame that holds its symbols, whatever symbols follow, and its bits
-    pub pairs-back : (i : Interval) (tail : ℕ) (rest : List Sent) (p n context : ℕ) →
-        let xs = sentPairs lookup frequencies rate ne lines p n context in
-        let bits = pairsBits lsb lines p n in
-        Within i → AllPass (xs ++ rest) → 3 + behind i (xs ++ rest) .shifts ≤ length f → Inside f 0 (behind i (xs ++ rest)) →
-        Stands f tail bits → 8 * behind i (xs ++ rest) .shifts + tail + length bits + 2 ≤ 8 * length f →
-        readPairs lookup frequencies lsb rate ne p n context (stateAt f 0 i) f (cursorAt (record { head = 0; tail = tail }) i)
-        ≡ accepted (record { value = pairsOf lsb lines p n; state = stateAt f 0 (behind i xs) }, cursorAt (record { head = 0; tail = tail + length bits }) (behind i xs))
-    pairs-back i tail rest p n context within all head inside stands room =
-        let xs = sentPairs lookup frequencies rate ne lines p n context in
-        let bits = pairsBits lsb lines p n in
-        pairs-given p n context .at i tail rest []
-        (subst (Holding f i tail (xs ++ rest)) (sym (append-nil bits))
-        (record { within = within; all = all; inside = inside; head = head; stands = stands; room = λ some. room }))
+  -- the stage on a frame that holds its symbols, whatever symbols follow, and its bits, as far as these have room
+  pub pairs-came : (i : Interval) (tail : ℕ) (rest : List Sent) (p n context : ℕ) →
+      let xs = sentPairs lookup frequencies rate ne lines p n context in
+      let bits = pairsBits lsb lines p n in
+      Holding f i tail (xs ++ rest) bits →
+      Came (asked lines (p + n)) (Room f i tail (xs ++ rest) bits)
+      (readPairs lookup frequencies lsb rate ne p n context (stateAt f 0 i) f (placeAt i tail))
+      (accepted (record { value = pairsOf lsb lines p n; state = stateAt f 0 (behind i xs) }, placeAt (behind i xs) (tail + length bits)))
+  pairs-came i tail rest p n context h =
+      let xs = sentPairs lookup frequencies rate ne lines p n context in
+      let bits = pairsBits lsb lines p n in
+      subst (λ (bs : List Bit). Came (asked lines (p + n)) (Room f i tail (xs ++ rest) bs) (readPairs lookup frequencies lsb rate ne p n context (stateAt f 0 i) f (placeAt i tail)) (accepted (record { value = pairsOf lsb lines p n; state = stateAt f 0 (behind i xs) }, placeAt (behind i xs) (tail + length bits)))) (append-nil bits)
+      (pairs-given (p + n) p n context (omega arith) .at i tail rest [] (subst (Holding f i tail (xs ++ rest)) (sym (append-nil bits)) h))
+
+  pub pairs-back : (i : Interval) (tail : ℕ) (rest : List Sent) (p n context : ℕ) →
+      let xs = sentPairs lookup frequencies rate ne lines p n context in
+      let bits = pairsBits lsb lines p n in
+      Holding f i tail (xs ++ rest) bits → 8 * behind i (xs ++ rest) .shifts + tail + length bits + 2 ≤ 8 * length f →
+      readPairs lookup frequencies lsb rate ne p n context (stateAt f 0 i) f (placeAt i tail)
+      ≡ accepted (record { value = pairsOf lsb lines p n; state = stateAt f 0 (behind i xs) }, placeAt (behind i xs) (tail + length bits))
+  pairs-back i tail rest p n context h room = came-whole (pairs-came i tail rest p n context h) (λ some. room)

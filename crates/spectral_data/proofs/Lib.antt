@@ -10,3 +10,4 @@ pub mod Sends
 pub mod Back
 pub mod Retrace
 pub mod Puts
+pub mod Otherwise

@@ -5,15 +5,18 @@ use mathlib.Core.Path.{_≡_, refl, ap}
 use mathlib.Core.Bool.{Bool, true}
 use mathlib.Core.List.{List, [], _∷_}
 use native.Mathlib.Omega.{arith}
+use native.Mathlib.Nat.{add-zero}
 use lib.ListN.{length, getD}
-use lib.IntN.{pos, natAbs}
+use lib.IntN.{ℤ, pos, natAbs}
 use Rattle.common.specs.Reply.{Reply, accepted, refused}
 use Rattle.common.specs.Tables.{lookupPasses, partPasses}
 use Rattle.buffer_reader.specs.declared.Cursor.{Cursor}
 use Rattle.contexts.specs.Contexts.{firstPart, secondPart, nextContext}
+use Rattle.contexts.specs.Lines.{escapesAt}
 use Rattle.range_decoder.specs.Decoder.{rangePasses}
 use Rattle.range_decoder.specs.declared.DecoderState.{DecoderState}
 use Rattle.coding.specs.Coding.{Coded}
+use Rattle.spectral_data.specs.Sent.{pairsOf}
 use Rattle.spectral_data.specs.Spectral.{Pair, readPairs, linesOf, levelsOf}
 use Rattle.spectral_data.proofs.Codings.{Behind, going-at, going-refused}
 use Rattle.spectral_data.proofs.Bounds.{Meets, Sized, All, none, more, Pairs, pairs-going}
@@ -39,6 +42,15 @@ pub levels-length : (xs : List Pair) → length (levelsOf xs) ≡ length xs
 unfolding levelsOf
 levels-length [] = refl
 levels-length (x ∷ xs) = ap suc (levels-length xs)
+
+-- the levels of pairs that were written are the escapes of their lines
+pub levels-written : (lsb : Bool) (lines : List ℤ) (p n q : ℕ) → q < n → getD (levelsOf (pairsOf lsb lines p n)) q 0 ≡ escapesAt lines (p + q)
+unfolding levelsOf pairsOf
+levels-written lsb lines p zero q l = absurd (omega arith)
+levels-written lsb lines p (suc n) zero l = rw (add-zero p) refl
+levels-written lsb lines p (suc n) (suc q) l =
+    let e : p + suc q ≡ p + 1 + q = omega arith in
+    rw e (levels-written lsb lines (p + 1) n q (omega arith))
 
 -- the first line of a pair, at an even place, is at most 32,767, and the second at most 81,919
 pub even-most : (xs : List Pair) → All Sized xs → (k : ℕ) → natAbs (getD (linesOf xs) (2 * k) (pos 0)) ≤ 32767

@@ -134,7 +134,7 @@ module _ (lookup frequencies : List ℕ) (looked : lookupPasses lookup ≡ true)
 -- ---- a pair
 
 -- a sign is one bit
-sign-length : (t : Bool) (x : Bit) → length (cond t (x ∷ []) []) ≡ cond t 1 0
+pub sign-length : (t : Bool) (x : Bit) → length (cond t (x ∷ []) []) ≡ cond t 1 0
 sign-length true x = refl
 sign-length false x = refl
 

@@ -1,10 +1,11 @@
 -- The symbols of the pairs: each is one of a row that passes, and a pair has at most fourteen, thirteen escapes and its last. And the
 -- symbols from here on, one escape and one pair at a time. Assumes nothing.
 use Prim.Native.Nat.{ℕ, zero, suc, _+_, _-_, _*_, _≤_, _<_}
-use mathlib.Core.Path.{_≡_, refl, sym, subst}
+use mathlib.Core.Path.{_≡_, refl, sym, ap, subst, _∙_}
 use mathlib.Core.Bool.{Bool, true}
-use mathlib.Core.List.{List, [], _∷_, _++_}
+use mathlib.Core.List.{List, [], _∷_, _++_, append-assoc}
 use native.Mathlib.Omega.{arith}
+use native.Mathlib.Nat.{zero-add}
 use borrow.Author.Tests.{eqb-true}
 use lib.Dec.{eqb}
 use lib.IntN.{ℤ}
@@ -81,7 +82,20 @@ module _ (lookup frequencies : List ℕ) where
       rw (length-append (sentPair lookup frequencies (lookupStart context rate ne (2 * p)) a b))
       (omega (arith, pair-few (lookupStart context rate ne (2 * p)) a b (modest (2 * p)) (modest (2 * p + 1)), pairs-few rate ne lines modest (p + 1) n (contextBehind context a b)))
 
--- ---- what is left to send
+  -- ---- what is left to send
+
+  -- those of the first pairs begin those of all
+  pub sent-front : (rate ne : ℕ) (lines : List ℤ) (p m r context : ℕ) → (rest : List Sent) × (sentPairs lookup frequencies rate ne lines p (m + r) context ≡ sentPairs lookup frequencies rate ne lines p m context ++ rest)
+  unfolding sentPairs
+  sent-front rate ne lines p zero r context =
+      (sentPairs lookup frequencies rate ne lines p r context, rw (zero-add r) refl)
+  sent-front rate ne lines p (suc m) r context =
+      let a = magnitudeAt lines (2 * p) in
+      let b = magnitudeAt lines (2 * p + 1) in
+      let later = sent-front rate ne lines (p + 1) m r (contextBehind context a b) in
+      let one = sentPair lookup frequencies (lookupStart context rate ne (2 * p)) a b in
+      let more : suc m + r ≡ suc (m + r) = omega arith in
+      (later .0, rw more (ap (λ (xs : List Sent). one ++ xs) (later .1) ∙ sym (append-assoc one (sentPairs lookup frequencies rate ne lines (p + 1) m (contextBehind context a b)) (later .0))))
 
 -- one symbol sent, by the row and the number that the code has
 pub left-symbol : (writing : Bool) (s₀ : EncoderState) (f₀ : List ℕ) (all : List Sent) (s : EncoderState) (f : List ℕ) (part : List ℕ) (row row′ symbol symbol′ : ℕ) (xs : List Sent) (r : EncoderState) (g : List ℕ) → row ≡ row′ → symbol ≡ symbol′ →

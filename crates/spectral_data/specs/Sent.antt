@@ -48,7 +48,7 @@ lowsFrom lsb k a b level (suc n) = lowAt lsb k a b level ++ lowsFrom lsb k a b (
 abbrev pub early : Bool → ℕ → ℕ → ℕ
 early lsb n a = cond (lsb && ltb 0 n) (a / 2) a
 
--- line k's sign, "a sign for what is above 0", in a pair with n escapes
+-- line k's sign, which only what is above 0 has, in a pair with n escapes
 abbrev pub signAt : Bool → ℕ → List ℤ → ℕ → List Bit
 signAt lsb n lines k =
     cond (ltb 0 (early lsb n (magnitudeAt lines k))) (owned (sign k) (minus (lineAt lines k)) ∷ []) []

@@ -43,7 +43,7 @@ readLevels lookup frequencies lsb p t (suc left) level a b =
     (onward (lowBits lsb p level)
     (λ low. readLevels lookup frequencies lsb p t left (level + 1) (a + low .0 * 2 ^ level) (b + low .1 * 2 ^ level))))
 
--- a line of a magnitude: "a sign for what is above 0", 1 for minus
+-- a line of a magnitude: a sign for what is above 0, 1 for minus
 abbrev pub readSign : ℕ → ℕ → ℕ → Coding ℤ
 readSign p level magnitude =
     cond (ltb 0 magnitude)

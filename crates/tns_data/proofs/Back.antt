@@ -19,50 +19,50 @@ use Rattle.range_encoder.specs.Runs.{AllPass}
 use Rattle.range_encoder.specs.Theory.{Within, Inside, stateAt, cursorAt}
 use Rattle.coding.specs.Coding.{met, symbolBy}
 use Rattle.sending.specs.Sending.{sent, Stands}
-use Rattle.sending.proofs.Standing.{Back, back-done, back-onward, back-last, back-symbol}
+use Rattle.sending.proofs.Standing.{came-whole, Back, back-done, back-onward, back-last, back-symbol}
 use Rattle.tns_data.specs.Tns.{Filter, Tns, noFilter, readIndices, readFilter, readTns}
 use Rattle.tns_data.specs.Sent.{sentIndices, sentFilter, sentTns, tnsOf, tnsPasses}
 use Rattle.tns_data.proofs.Sends.{tns-given}
 
-module _ (f : List ℕ) (bytes : Bytes f) (short : length f ≤ 65535) (orders coefficients : List ℕ) (weighting : ℕ) where
+module _ (f : List ℕ) (bytes : Bytes f) (short : length f ≤ 65535) (At : ℕ → ℕ → Type 0) (orders coefficients : List ℕ) (weighting : ℕ) where
   -- indices, by as many as there are
-  indices-back : (filter k : ℕ) (xs : List ℕ) → Back f bytes short (readIndices coefficients filter k (length xs)) (sentIndices coefficients k xs) [] xs
+  indices-back : (filter k : ℕ) (xs : List ℕ) → Back f bytes short At (readIndices coefficients filter k (length xs)) (sentIndices coefficients k xs) [] xs
   unfolding readIndices sentIndices
-  indices-back filter k [] = back-done f bytes short []
+  indices-back filter k [] = back-done f bytes short At []
   indices-back filter k (x ∷ xs) =
       let row = rowAt 17 k coefficients in
-      back-onward f bytes short (met (coef filter k) (symbolBy row)) _ (back-symbol f bytes short (coef filter k) (sent row x))
-      (back-last f bytes short (readIndices coefficients filter (k + 1) (length xs)) (λ rest. x ∷ rest) (indices-back filter (k + 1) xs))
+      back-onward f bytes short At (met (coef filter k) (symbolBy row)) _ (back-symbol f bytes short At (coef filter k) (sent row x))
+      (back-last f bytes short At (readIndices coefficients filter (k + 1) (length xs)) (λ rest. x ∷ rest) (indices-back filter (k + 1) xs))
 
   -- a filter that is there: its order, then as many indices
-  filter-some : (filter n : ℕ) (xs : List ℕ) → length xs ≡ n + 1 → Back f bytes short (readFilter orders coefficients weighting filter 1) (sent (rowAt 8 weighting orders) n ∷ sentIndices coefficients 0 xs) [] (record { order = n + 1; indices = xs })
+  filter-some : (filter n : ℕ) (xs : List ℕ) → length xs ≡ n + 1 → Back f bytes short At (readFilter orders coefficients weighting filter 1) (sent (rowAt 8 weighting orders) n ∷ sentIndices coefficients 0 xs) [] (record { order = n + 1; indices = xs })
   filter-some filter n xs size =
       let row = rowAt 8 weighting orders in
-      let all = back-last f bytes short {B = Filter} (readIndices coefficients filter 0 (length xs)) (λ indices. record { order = n + 1; indices = indices }) (indices-back filter 0 xs) in
-      back-onward f bytes short (met (order filter) (symbolBy row)) _ (back-symbol f bytes short (order filter) (sent row n)) (rw size at all)
+      let all = back-last f bytes short At {B = Filter} (readIndices coefficients filter 0 (length xs)) (λ indices. record { order = n + 1; indices = indices }) (indices-back filter 0 xs) in
+      back-onward f bytes short At (met (order filter) (symbolBy row)) _ (back-symbol f bytes short At (order filter) (sent row n)) (rw size at all)
 
   -- a filter by its flag, which is set exactly where the order is not 0
   filter-back : (filter flag n : ℕ) (xs : List ℕ) → length xs ≡ n → flag ≡ cond (eqb n 0) 0 1 →
-      Back f bytes short (readFilter orders coefficients weighting filter flag) (sentFilter orders coefficients weighting (record { order = n; indices = xs })) [] (record { order = n; indices = xs })
-  filter-back filter flag zero [] size set = rw set (back-done f bytes short noFilter)
+      Back f bytes short At (readFilter orders coefficients weighting filter flag) (sentFilter orders coefficients weighting (record { order = n; indices = xs })) [] (record { order = n; indices = xs })
+  filter-back filter flag zero [] size set = rw set (back-done f bytes short At noFilter)
   filter-back filter flag zero (x ∷ xs) size set = absurd (omega arith)
   filter-back filter flag (suc n) xs size set =
       let one : suc n - 1 ≡ n = omega arith in
-      let some = subst (λ (m : ℕ). Back f bytes short (readFilter orders coefficients weighting filter 1) (sent (rowAt 8 weighting orders) n ∷ sentIndices coefficients 0 xs) [] (record { order = m; indices = xs })) (add-one n) (filter-some filter n xs (size ∙ sym (add-one n))) in
+      let some = subst (λ (m : ℕ). Back f bytes short At (readFilter orders coefficients weighting filter 1) (sent (rowAt 8 weighting orders) n ∷ sentIndices coefficients 0 xs) [] (record { order = m; indices = xs })) (add-one n) (filter-some filter n xs (size ∙ sym (add-one n))) in
       rw (set, ne-eqb (suc n) 0 (λ e. absurd (omega arith)), one) some
 
   both-back : (firstFlag secondFlag : ℕ) (tns : Tns) → length (tns .first .indices) ≡ tns .first .order → length (tns .second .indices) ≡ tns .second .order →
       firstFlag ≡ cond (eqb (tns .first .order) 0) 0 1 → secondFlag ≡ cond (eqb (tns .second .order) 0) 0 1 →
-      Back f bytes short (readTns orders coefficients weighting firstFlag secondFlag) (sentTns orders coefficients weighting tns) [] tns
+      Back f bytes short At (readTns orders coefficients weighting firstFlag secondFlag) (sentTns orders coefficients weighting tns) [] tns
   both-back firstFlag secondFlag tns one two set also =
-      back-onward f bytes short (readFilter orders coefficients weighting 0 firstFlag) _
+      back-onward f bytes short At (readFilter orders coefficients weighting 0 firstFlag) _
       (filter-back 0 firstFlag (tns .first .order) (tns .first .indices) one set)
-      (back-last f bytes short {B = Tns} (readFilter orders coefficients weighting 1 secondFlag) (λ b. record { first = tns .first; second = b })
+      (back-last f bytes short At {B = Tns} (readFilter orders coefficients weighting 1 secondFlag) (λ b. record { first = tns .first; second = b })
       (filter-back 1 secondFlag (tns .second .order) (tns .second .indices) two also))
 
   -- the law: what passes is read back as it was written
   pub tns-held : (firstFlag secondFlag first second : ℕ) (indices : List ℕ) → length indices ≡ 16 → tnsPasses firstFlag secondFlag first second indices ≡ true →
-      Back f bytes short (readTns orders coefficients weighting firstFlag secondFlag) (sentTns orders coefficients weighting (tnsOf first second indices)) [] (tnsOf first second indices)
+      Back f bytes short At (readTns orders coefficients weighting firstFlag secondFlag) (sentTns orders coefficients weighting (tnsOf first second indices)) [] (tnsOf first second indices)
   tns-held firstFlag secondFlag first second indices size passes =
       let g = tns-given firstFlag secondFlag first second indices passes in
       both-back firstFlag secondFlag (tnsOf first second indices)
@@ -82,5 +82,7 @@ module _ (orders coefficients : List ℕ) (weighting : ℕ) where
   unfolding Stands
   tns-back firstFlag secondFlag first second indices size passes f tail i rest bytes short within all head inside =
       rw (add-zero tail) at
-      (tns-held f bytes short orders coefficients weighting firstFlag secondFlag first second indices size passes .at i tail rest []
-      (record { within = within; all = all; inside = inside; head = head; stands = tt; room = λ some. absurd (omega arith) }))
+      (came-whole
+      (tns-held f bytes short (λ p level. ⊥) orders coefficients weighting firstFlag secondFlag first second indices size passes .at i tail rest []
+      (record { within = within; all = all; inside = inside; head = head; stands = tt }))
+      (λ some. absurd (omega arith)))

@@ -33,6 +33,15 @@ padded-passes [] n low = zeros-pass n
 padded-passes (x ∷ xs) n low =
     and-both (leb x 16) (placesPass (length xs) (xs ++ zeros n)) (and-left (leb x 16) (allAtMost 16 xs) low) (padded-passes xs n (and-right (leb x 16) (allAtMost 16 xs) low))
 
+-- the places are eight, and sixteen
+eight-length : (filter : Filter) → length (eightOf filter) ≡ 8
+eight-length filter =
+    length-take-le 8 (filter .indices ++ zeros 8) (omega (arith, length-append (filter .indices) (zeros 8), length-replicate {A = ℕ} 8 0))
+
+pub sixteen-length : (tns : Tns) → length (sixteenOf tns) ≡ 16
+sixteen-length tns =
+    omega (arith, length-append (eightOf (tns .first)) (eightOf (tns .second)), eight-length (tns .first), eight-length (tns .second))
+
 module _ (flag : ℕ) (filter : Filter) (listed : flag ≤ 1) (known : FilterWithin flag filter) where
   flag-given : eqb flag (cond (eqb (filter .order) 0) 0 1) ≡ true
   flag-given =
@@ -48,10 +57,6 @@ module _ (flag : ℕ) (filter : Filter) (listed : flag ≤ 1) (known : FilterWit
       let places = subst (λ (n : ℕ). placesPass n (xs ++ zeros (8 - length xs)) ≡ true) size (padded-passes xs (8 - length xs) (known .indices .low)) in
       rw (take-padded xs 8 8 (omega (arith, known .most)) (omega arith), le-leb (filter .order) 8 (known .most), flag-given) places
 
-  image-length : length (eightOf filter) ≡ 8
-  image-length =
-      length-take-le 8 (filter .indices ++ zeros 8) (omega (arith, length-append (filter .indices) (zeros 8), length-replicate {A = ℕ} 8 0))
-
   image-indices : take (filter .order) (eightOf filter) ≡ filter .indices
   image-indices =
       take-take (filter .order) 8 (filter .indices ++ zeros 8) (known .most) ∙
@@ -60,10 +65,10 @@ module _ (flag : ℕ) (filter : Filter) (listed : flag ≤ 1) (known : FilterWit
 -- both filters, from the sixteen places
 module _ (firstFlag secondFlag : ℕ) (tns : Tns) (listed : firstFlag ≤ 1) (also : secondFlag ≤ 1) (known : TnsWithin firstFlag secondFlag tns) where
   front : take 8 (sixteenOf tns) ≡ eightOf (tns .first)
-  front = take-at (eightOf (tns .first)) (eightOf (tns .second)) 8 (image-length firstFlag (tns .first) listed (known .first))
+  front = take-at (eightOf (tns .first)) (eightOf (tns .second)) 8 (eight-length (tns .first))
 
   back : drop 8 (sixteenOf tns) ≡ eightOf (tns .second)
-  back = drop-at (eightOf (tns .first)) (eightOf (tns .second)) 8 (image-length firstFlag (tns .first) listed (known .first))
+  back = drop-at (eightOf (tns .first)) (eightOf (tns .second)) 8 (eight-length (tns .first))
 
   within-passes : tnsPasses firstFlag secondFlag (tns .first .order) (tns .second .order) (sixteenOf tns) ≡ true
   within-passes =
@@ -74,7 +79,7 @@ module _ (firstFlag secondFlag : ℕ) (tns : Tns) (listed : firstFlag ≤ 1) (al
 
   within-same : tnsOf (tns .first .order) (tns .second .order) (sixteenOf tns) ≡ tns
   within-same =
-      let size = image-length firstFlag (tns .first) listed (known .first) in
+      let size = eight-length (tns .first) in
       let one : take (tns .first .order) (sixteenOf tns) ≡ tns .first .indices =
       take-append-le (tns .first .order) (eightOf (tns .first)) (eightOf (tns .second)) (omega (arith, known .first .most)) ∙
       image-indices firstFlag (tns .first) listed (known .first) in

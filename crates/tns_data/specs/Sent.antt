@@ -32,7 +32,7 @@ tnsOf first second indices =
       second = record { order = second; indices = take second (drop 8 indices) };
     }
 
--- places for indices: "0..16 below their order, 0 from there on"
+-- places for indices: 0..16 below their order, 0 from there on
 unfoldable pub placesPass : ℕ → List ℕ → Bool
 placesPass order [] = true
 placesPass zero (x ∷ xs) = eqb x 0 && placesPass zero xs

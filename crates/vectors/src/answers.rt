@@ -1,45 +1,71 @@
-// What this code answers, by the kind of the case. A new module takes the next kinds and the next place.
-ghost use Prim.Native.Nat.{_≤_, _<_};
-ghost use lib.ListN.{length};
+// What this code answers: 0 and what is returned, or the refusal's number of document 01 and its values. A module has sixteen
+// kinds.
+use crate::buffer_cases;
 use crate::decoder_cases;
 use crate::encoder_cases;
-use crate::gain_cases;
-use crate::quantiser_cases;
-use crate::reader_cases;
+use crate::number::word;
+use crate::quantisation_cases;
 use crate::side_cases;
-use crate::table_cases;
-use crate::writer_cases;
+use buffer_reader::BufferError;
+use range_decoder::CodecError;
 
-// The length of the answer; 0 where the kind is unknown or the case malformed.
-pub(crate) fn answer(kind: u8, case: &[u8], out: &mut [u8]) -> usize
-    requires { ⌜ 4096 ≤ length (now out) ⌝ }
-    ensures { λ r. ⌜ r ≤ length (now (out .exit)) ⌝ }
-{
+pub(crate) fn answer(kind: u8, n: [usize; 24], bytes: &mut [u8], lent: &[u8]) -> [usize; 24] {
     match kind {
-        1..=4 => reader_cases::answer(kind, case, out),
-        5..=8 => writer_cases::answer(kind, case, out),
-        9..=10 => side_cases::answer(kind, case, out),
-        11 | 18 => table_cases::answer(kind, case, out),
-        12..=13 => decoder_cases::answer(kind, case, out),
-        14..=15 | 19 => encoder_cases::answer(kind, case, out),
-        16 => quantiser_cases::answer(case, out),
-        17 => gain_cases::answer(case, out),
-        _ => 0,
+        1..=4 => buffer_cases::read(kind, n, bytes),
+        17..=20 => buffer_cases::write(kind, n, bytes),
+        33 => side_cases::read(n, bytes),
+        34 => side_cases::write(n, bytes),
+        49 => decoder_cases::start(n, bytes),
+        50 => decoder_cases::step(n, bytes, lent),
+        65 => encoder_cases::run(n, bytes, lent),
+        81 => quantisation_cases::quantised(n),
+        82 => quantisation_cases::searched(n, lent),
+        83 => quantisation_cases::estimated(n, bytes, lent),
+        _ => none(),
     }
 }
 
-// The place of a kind's module in the tally. A kind that has none is never counted.
-pub(crate) fn place(kind: u8) -> usize
-    ensures { λ r. ⌜ r < 8 ⌝ }
-{
-    match kind {
-        1..=4 => 0,
-        5..=8 => 1,
-        9..=10 => 2,
-        11 => 3,
-        12..=13 => 4,
-        14..=15 | 19 => 5,
-        16..=18 => 6,
-        _ => 7,
+pub(crate) fn told(
+    number: usize,
+    first: usize,
+    second: usize,
+    third: usize,
+    fourth: usize,
+    fifth: usize,
+) -> [usize; 24] {
+    let mut all = [0; 24];
+    all[0] = number;
+    all[1] = first;
+    all[2] = second;
+    all[3] = third;
+    all[4] = fourth;
+    all[5] = fifth;
+    all
+}
+
+// What no answer is that is expected: of a call that is none, or that its module does not take.
+pub(crate) fn none() -> [usize; 24] {
+    told(255, 0, 0, 0, 0, 0)
+}
+
+pub(crate) fn refused(number: usize, first: usize, second: usize) -> [usize; 24] {
+    told(number, first, second, 0, 0, 0)
+}
+
+pub(crate) fn of_buffer(why: BufferError) -> [usize; 24] {
+    match why {
+        BufferError::WrongLength(len) => refused(2, len, 0),
+        BufferError::NoTailRoom(width, bit_index) => refused(9, width, bit_index),
+        BufferError::PastEnd(head) => refused(10, head, 0),
+        BufferError::WidthNotListed(width) => refused(17, width, 0),
+    }
+}
+
+pub(crate) fn of_codec(why: CodecError) -> [usize; 24] {
+    match why {
+        CodecError::OutsideLimits => refused(1, 0, 0),
+        CodecError::RowFails => refused(3, 0, 0),
+        CodecError::LowBeyondLimit(low, limit) => refused(11, word(low), word(limit)),
+        CodecError::Buffer(e) => of_buffer(e),
     }
 }

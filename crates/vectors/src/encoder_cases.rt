@@ -1,23 +1,16 @@
-// Cases of range_encoder: the rows, the list, and a buffer. A symbol of the list is the number of its row, one byte, and
-// its place there, two bytes.
+// A run of range_encoder's own calls, from the start through a list of symbols to the finish, in a reading. The bytes are the
+// buffer. The list is lent: where each symbol begins in its row, and its frequency, two bytes each.
 ghost use Prim.Native.Nat.{_+_, _≤_};
 ghost use lib.ListN.{length};
 ghost use Rattle.range_encoder.specs.Encoder.{shiftsOf};
 ghost use Rattle.range_encoder.specs.Private.{Sound};
-use crate::number::put_byte;
-use crate::number::put_eight;
-use crate::number::put_four;
+use crate::answers::none;
+use crate::answers::told;
+use crate::number::two;
 use crate::number::word;
-use crate::record;
-use crate::round_trip;
-use crate::rows;
-use crate::rows::Share;
 use range_encoder::EncoderState;
 use range_encoder::Finished;
 use range_encoder::inner;
-
-// Where the buffer stands in the answer of a run.
-const FRONT: usize = 73;
 
 // The encoder behind a list, if every symbol of it could be sent.
 struct Coded {
@@ -25,142 +18,60 @@ struct Coded {
     is_sent: bool,
 }
 
-// A list that was sent: the state behind it, E and the forecast there, and where the finish ended.
-pub(crate) struct Sent {
-    pub(crate) st: EncoderState,
-    pub(crate) reserved: usize,
-    pub(crate) forecast: usize,
-    pub(crate) end: Finished,
-    pub(crate) is_whole: bool,
-}
-
-pub(crate) fn answer(kind: u8, case: &[u8], out: &mut [u8]) -> usize
-    requires { ⌜ 4096 ≤ length (now out) ⌝ }
-    ensures { λ r. ⌜ r ≤ length (now (out .exit)) ⌝ }
-{
-    let mut words = [0u16; 1100];
-    let parts = rows::split(case, &mut words);
-    if !parts.is_whole {
-        return 0;
+pub(crate) fn run(n: [usize; 24], buf: &mut [u8], list: &[u8]) -> [usize; 24] {
+    if 65535 < buf.len() {
+        return none();
     }
-    let count = parts.words;
-    let list = parts.list;
-    let behind = parts.behind;
-    let words = &words[0..count];
-    let sent = &case[list..behind];
-    let buf = &case[behind..];
-    match kind {
-        14 => run(words, sent, buf, 0, out),
-        15 => round_trip::answer(words, sent, buf, out),
-        _ => run(words, sent, buf, 1, out),
-    }
-}
-
-// A run in a reading, into a buffer that holds `before`.
-fn run(words: &[u16], list: &[u8], before: &[u8], reading: usize, out: &mut [u8]) -> usize
-    requires { ⌜ 4096 ≤ length (now out) ⌝ }
-    ensures { λ r. ⌜ r ≤ length (now (out .exit)) ⌝ }
-{
-    let len = before.len();
-    if 4000 < len {
-        return 0;
-    }
-    let end = FRONT + len;
-    let buf = &mut out[FRONT..end];
-    record::copy(before, buf);
-    let sent = send(words, list, buf, reading);
-    if !sent.is_whole {
-        return 0;
-    }
-    put_sent(sent, out);
-    end
-}
-
-fn put_sent(sent: Sent, out: &mut [u8])
-    requires { ⌜ 4096 ≤ length (now out) ⌝ }
-{
-    put_state(sent.st, out);
-    put_three(out, 41, sent.reserved, sent.forecast, sent.end.out);
-    put_eight(out, 65, sent.end.bits);
-}
-
-fn put_state(st: EncoderState, out: &mut [u8])
-    requires { ⌜ 4096 ≤ length (now out) ⌝ }
-{
-    put_byte(out, 0, 0);
-    put_four(out, 1, word(st.low));
-    put_four(out, 5, word(st.range));
-    put_four(out, 9, word(st.cache));
-    put_four(out, 13, word(st.carry));
-    put_three(out, 17, st.held, st.pending, st.out);
-}
-
-fn put_three(out: &mut [u8], at: usize, first: usize, second: usize, third: usize)
-    requires { ⌜ at + 24 ≤ length (now out) ⌝ }
-{
-    put_eight(out, at, first);
-    put_eight(out, at + 8, second);
-    put_eight(out, at + 16, third);
-}
-
-// A list from the encoder's start to the finish, where the buffer has room for both.
-pub(crate) fn send(words: &[u16], list: &[u8], buf: &mut [u8], reading: usize) -> Sent
-    requires { ⌜ length (now buf) ≤ 65535 ⌝ }
-{
-    let coded = encode_all(words, list, buf);
+    let coded = encode_all(list, buf);
     let st = coded.st;
     let reserved = inner::reserved_bits(st);
     let forecast = inner::nbits_forecast(st);
     if !coded.is_sent {
-        return cut_off(st);
+        return none();
     }
     if 8 * buf.len() < reserved {
-        return cut_off(st);
+        return none();
     }
-    let end = inner::ac_enc_finish(buf, st, reading);
-    Sent {
-        st,
-        reserved,
-        forecast,
-        end,
-        is_whole: true,
-    }
+    let end = inner::ac_enc_finish(buf, st, n[0]);
+    accepted(st, reserved, forecast, end)
 }
 
-fn cut_off(st: EncoderState) -> Sent {
-    Sent {
-        st,
-        reserved: 0,
-        forecast: 0,
-        end: Finished { out: 0, bits: 0 },
-        is_whole: false,
-    }
+fn accepted(st: EncoderState, reserved: usize, forecast: usize, end: Finished) -> [usize; 24] {
+    let mut all = told(0, st.held, st.pending, st.out, reserved, forecast);
+    all[6] = end.out;
+    all[7] = end.bits;
+    all[8] = word(st.low);
+    all[9] = word(st.range);
+    all[10] = word(st.cache);
+    all[11] = word(st.carry);
+    all
 }
 
-// A symbol that its row does not have, or that the buffer may have no room for, ends the list.
-fn encode_all(words: &[u16], list: &[u8], buf: &mut [u8]) -> Coded
+// A symbol that no row has, or that the buffer may have no room for, ends the list.
+fn encode_all(list: &[u8], buf: &mut [u8]) -> Coded
     requires { ⌜ length (now buf) ≤ 65535 ⌝ }
     ensures { λ r. ⌜ (Sound (r .st)) × (shiftsOf (r .st) ≤ length (now (buf .entry))) ⌝ }
 {
     let mut st = inner::ac_enc_init();
     let mut i = 0;
-    while i < list.len() / 3 {
-        let share = rows::share_at(words, list, i);
-        if share.frequency == 0 {
+    while i < list.len() / 4 {
+        let cumulative = two(list, 4 * i);
+        let frequency = two(list, 4 * i + 2);
+        if frequency == 0 || 1024 < cumulative + frequency {
             return Coded { st, is_sent: false };
         }
         if buf.len() < st.out + st.held + st.pending + 2 {
             return Coded { st, is_sent: false };
         }
-        st = encode_one(buf, st, share);
+        st = encode_one(buf, st, cumulative as u32, frequency as u32);
         i += 1;
     }
     Coded { st, is_sent: true }
 }
 
-fn encode_one(buf: &mut [u8], st: EncoderState, share: Share) -> EncoderState
-    requires { ⌜ (Sound st) × (1 ≤ share .frequency) × (share .cumulative + share .frequency ≤ 1024) × (shiftsOf st + 2 ≤ length (now buf)) × (length (now buf) ≤ 65535) ⌝ }
+fn encode_one(buf: &mut [u8], st: EncoderState, cumulative: u32, frequency: u32) -> EncoderState
+    requires { ⌜ (Sound st) × (1 ≤ frequency) × (cumulative + frequency ≤ 1024) × (shiftsOf st + 2 ≤ length (now buf)) × (length (now buf) ≤ 65535) ⌝ }
     ensures { λ r. ⌜ (Sound r) × (shiftsOf r ≤ length (now (buf .entry))) ⌝ }
 {
-    inner::ac_encode(buf, st, share.cumulative, share.frequency)
+    inner::ac_encode(buf, st, cumulative, frequency)
 }

@@ -1,129 +1,89 @@
-// Replays the answers that are expected against this repository's code: records from standard input, a verdict last.
+// Replays calls against the answers that are expected: records from standard input, a verdict last.
 mod agreement;
 mod answers;
+mod buffer_cases;
 mod decoder_cases;
 mod encoder_cases;
-mod estimate_cases;
-mod gain_cases;
+mod lists;
 mod number;
-mod quantiser_cases;
-mod reader_cases;
+mod quantisation_cases;
 mod record;
-mod refusal;
 mod report;
-mod round_trip;
-mod rows;
 mod side_cases;
-mod side_record;
-mod signed;
-mod single;
-mod table_cases;
 mod tally;
-mod writer_cases;
-mod written;
 
+ghost use Prim.Native.Nat.{_≤_};
+ghost use mathlib.Core.Path.{_≡_};
 ghost use lib.ListN.{length};
-ghost use Rattle.vectors.specs.Place.{Held, Parts};
+ghost use Rattle.vectors.specs.Place.{Parts};
 use record::Record;
 use record::Taken;
 use tally::Tally;
 
-// What one turn hands to the next: the bytes that are not replayed yet stand in the buffer from `from` up to `to`.
-struct State {
-    from: usize,
-    to: usize,
-    going: bool,
-    tally: Tally,
+// One record: this code's answer beside the one that is expected. The first that differs is said at once.
+fn replay(buf: &mut [u8], lent: &[u8], r: Record, tally: Tally) -> Tally
+    requires { ⌜ Parts r (length (now buf)) ⌝ }
+    ensures { λ t. ⌜ t .lent ≡ tally .lent ⌝ }
+{
+    let kind = r.kind;
+    let bytes = r.bytes;
+    let want = r.want;
+    let numbers = number::all(&buf[8..bytes]);
+    let ours = answers::answer(kind, numbers, &mut buf[bytes..want], lent);
+    if agreed(buf, r, ours) {
+        return tally.counted(kind);
+    }
+    if tally.differ == 0 {
+        report::difference(tally.records, buf, lent, r, ours);
+    }
+    tally.differed(kind)
 }
 
-// One record: this code's answer beside the one that is expected. The first that differs is kept for the report.
-fn replay(buf: &[u8], kept: &mut [u8], r: Record, tally: Tally) -> Tally
+// Bytes that a call leaves are compared where the record has any.
+fn agreed(buf: &[u8], r: Record, ours: [usize; 24]) -> bool
     requires { ⌜ Parts r (length (now buf)) ⌝ }
 {
-    let start = r.start;
-    let case = r.case;
-    let answer = r.answer;
+    let bytes = r.bytes;
+    let want = r.want;
+    let left = r.left;
     let end = r.end;
-    let mut ours = [0u8; 8192];
-    let n = answers::answer(r.kind, &buf[case..answer], &mut ours);
-    if n == 0 {
-        return tally.malformed();
+    if !agreement::same(number::all(&buf[want..left]), ours) {
+        return false;
     }
-    let place = answers::place(r.kind);
-    if agreement::agrees(&buf[answer..end], &ours[0..n]) {
-        return tally.counted(place);
-    }
-    let counted = tally.differed(place);
-    if tally.differ == 0 {
-        record::copy(&buf[start..end], kept);
-    }
-    counted
+    left == end || agreement::agrees(&buf[left..end], &buf[bytes..want])
 }
 
-// Where the buffer holds no whole record: reads on, unless the input ends here.
-fn refilled(buf: &mut [u8], state: State) -> State
-    requires { ⌜ Held state (length (now buf)) ⌝ }
-    ensures { λ r. ⌜ Held r (length (now (buf .exit))) ⌝ }
+fn turn(buf: &mut [u8], lent: &mut [u8], tally: Tally) -> Tally
+    requires { ⌜ (length (now buf) ≡ 65536) × (length (now lent) ≡ 65536) × (tally .lent ≤ 65536) ⌝ }
+    ensures { λ t. ⌜ t .lent ≤ 65536 ⌝ }
 {
-    let left = state.to - state.from;
-    let tally = state.tally;
-    let to = record::refill(buf, state.from, state.to);
-    let more = left < to;
-    if more || left == 0 {
-        return State {
-            from: 0,
-            to,
-            going: more,
-            tally,
-        };
-    }
-    State {
-        from: 0,
-        to,
-        going: false,
-        tally: tally.malformed(),
-    }
-}
-
-fn turn(buf: &mut [u8], kept: &mut [u8], state: State) -> State
-    requires { ⌜ Held state (length (now buf)) ⌝ }
-    ensures { λ r. ⌜ Held r (length (now (buf .exit))) ⌝ }
-{
-    let to = state.to;
-    let tally = state.tally;
-    match record::next(buf, state.from, to) {
+    match record::next(buf, lent) {
         Taken::Whole(r) => {
-            let counted = replay(buf, kept, r, tally);
-            State {
-                from: r.end,
-                to,
-                going: !counted.is_malformed,
-                tally: counted,
-            }
+            let end = tally.lent;
+            replay(buf, &lent[0..end], r, tally)
         }
-        Taken::Cut => refilled(buf, state),
+        Taken::Lent(count) => tally.lends(count),
+        Taken::Ended => tally.ended(false),
+        Taken::Cut => tally.ended(true),
     }
 }
 
 // A loop has to end, and nothing says that an input does: the turns are counted down from a number that no run uses up.
-fn run(buf: &mut [u8], kept: &mut [u8]) -> Tally {
-    let mut state = State {
-        from: 0,
-        to: 0,
-        going: true,
-        tally: Tally::new(),
-    };
+fn run(buf: &mut [u8], lent: &mut [u8]) -> Tally
+    requires { ⌜ (length (now buf) ≡ 65536) × (length (now lent) ≡ 65536) ⌝ }
+{
+    let mut tally = Tally::new();
     let mut turns = u64::MAX;
-    while turns > 0 && state.going {
-        state = turn(buf, kept, state);
+    while turns > 0 && tally.is_going {
+        tally = turn(buf, lent, tally);
         turns -= 1;
     }
-    state.tally
+    tally
 }
 
 fn main() {
     let mut buf = io::large_buffer();
-    let mut kept = io::large_buffer();
-    let tally = run(&mut buf, &mut kept);
-    report::report(&kept, tally);
+    let mut lent = io::large_buffer();
+    let tally = run(&mut buf, &mut lent);
+    report::report(tally);
 }

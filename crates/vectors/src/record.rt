@@ -1,74 +1,81 @@
-// Records of the input: a kind, the lengths of the case and of the answer, the case, the answer.
-ghost use Prim.Native.Nat.{_+_, _≤_};
+// Records of the input: a kind, how many numbers the call has and how many the answer, a byte each, and one of no meaning; how
+// many bytes the call has and how many it leaves, two bytes each. Then the call's numbers and bytes, and the answer's.
+ghost use Prim.Native.Nat.{_≤_};
+ghost use mathlib.Core.Path.{_≡_};
 ghost use lib.ListN.{length};
-ghost use Rattle.vectors.specs.Place.{Placed};
+ghost use Rattle.vectors.specs.Place.{Parts, Placed};
 use crate::number::two;
+use crate::number::wide;
 use libc::STDIN_FILENO;
 
+// Where the parts stand in the buffer: the call's numbers from 8 on.
 pub(crate) struct Record {
     pub(crate) kind: u8,
-    pub(crate) start: usize,
-    pub(crate) case: usize,
-    pub(crate) answer: usize,
+    pub(crate) bytes: usize,
+    pub(crate) want: usize,
+    pub(crate) left: usize,
     pub(crate) end: usize,
 }
 
+// Kind 0 is no call: what stands in such a record is lent to those behind it, so many bytes.
 pub(crate) enum Taken {
     Whole(Record),
+    Lent(usize),
+    Ended,
     Cut,
 }
 
-// The record that starts at `from`, if all of it stands before `to`.
-pub(crate) fn next(buf: &[u8], from: usize, to: usize) -> Taken
-    requires { ⌜ (from ≤ to) × (to ≤ length (now buf)) ⌝ }
-    ensures { λ r. ⌜ Placed r to ⌝ }
+fn parts(buf: &[u8]) -> Record
+    requires { ⌜ 8 ≤ length (now buf) ⌝ }
+    ensures { λ r. ⌜ Parts r (r .end) ⌝ }
 {
-    if to - from < 5 {
+    let bytes = 8 + 8 * wide(buf[1]);
+    let want = bytes + two(buf, 4);
+    let left = want + 8 * wide(buf[2]);
+    let end = left + two(buf, 6);
+    Record {
+        kind: buf[0],
+        bytes,
+        want,
+        left,
+        end,
+    }
+}
+
+// Reads a record: to the front of `buf`, or what is lent to the front of `lent`.
+pub(crate) fn next(buf: &mut [u8], lent: &mut [u8]) -> Taken
+    requires { ⌜ (length (now buf) ≡ 65536) × (length (now lent) ≡ 65536) ⌝ }
+    ensures { λ r. ⌜ Placed r 65536 ⌝ }
+{
+    let got = io::read_full(STDIN_FILENO, &mut buf[0..8]);
+    if got == 0 {
+        return Taken::Ended;
+    }
+    if got < 8 {
         return Taken::Cut;
     }
-    let case = from + 5;
-    let case_len = two(buf, from + 1);
-    let answer_len = two(buf, from + 3);
-    if to - case < case_len + answer_len {
+    let r = parts(buf);
+    let end = r.end;
+    if 65536 < end {
         return Taken::Cut;
     }
-    Taken::Whole(Record {
-        kind: buf[from],
-        start: from,
-        case,
-        answer: case + case_len,
-        end: case + case_len + answer_len,
-    })
+    if r.kind == 0 {
+        return lend(lent, end - 8);
+    }
+    let got = io::read_full(STDIN_FILENO, &mut buf[8..end]);
+    if got < end - 8 {
+        return Taken::Cut;
+    }
+    Taken::Whole(r)
 }
 
-fn to_front(buf: &mut [u8], from: usize, count: usize)
-    requires { ⌜ from + count ≤ length (now buf) ⌝ }
+fn lend(lent: &mut [u8], count: usize) -> Taken
+    requires { ⌜ (count ≤ 65536) × (length (now lent) ≡ 65536) ⌝ }
+    ensures { λ r. ⌜ Placed r 65536 ⌝ }
 {
-    let mut i = 0;
-    while i < count {
-        buf[i] = buf[from + i];
-        i += 1;
+    let got = io::read_full(STDIN_FILENO, &mut lent[0..count]);
+    if got < count {
+        return Taken::Cut;
     }
-}
-
-// Moves the bytes from `from` up to `to` to the front, reads on behind them, and answers where they end now.
-pub(crate) fn refill(buf: &mut [u8], from: usize, to: usize) -> usize
-    requires { ⌜ (from ≤ to) × (to ≤ length (now buf)) ⌝ }
-    ensures { λ r. ⌜ r ≤ length (now (buf .exit)) ⌝ }
-{
-    let left = to - from;
-    to_front(buf, from, left);
-    left + io::read_full(STDIN_FILENO, &mut buf[left..])
-}
-
-// Puts src at the front of dst, if it has room for all of it.
-pub(crate) fn copy(src: &[u8], dst: &mut [u8]) {
-    if dst.len() < src.len() {
-        return;
-    }
-    let mut i = 0;
-    while i < src.len() {
-        dst[i] = src[i];
-        i += 1;
-    }
+    Taken::Lent(count)
 }

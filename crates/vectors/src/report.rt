@@ -1,11 +1,8 @@
-// What is written at the end.
+// What is written: the first difference when it is met, and at the end the counts and the verdict.
 ghost use lib.ListN.{length};
 ghost use Rattle.vectors.specs.Place.{Parts};
-use crate::answers;
 use crate::number::wide;
-use crate::record;
 use crate::record::Record;
-use crate::record::Taken;
 use crate::tally::Tally;
 use crate::tally::more;
 use io::print_decimal;
@@ -13,97 +10,79 @@ use io::print_hex;
 use io::write_all;
 use libc::STDOUT_FILENO;
 
-pub(crate) fn report(kept: &[u8], tally: Tally) {
-    modules(tally);
-    if tally.differ > 0 {
-        first_difference(kept, tally.first);
-    }
-    if tally.is_malformed {
-        malformed(tally.records);
-    }
-    verdict(tally);
+fn said(text: &[u8]) {
+    write_all(STDOUT_FILENO, text);
 }
 
-fn modules(tally: Tally) {
+// The bytes of a call that writes are as it left them here.
+pub(crate) fn difference(before: u64, buf: &[u8], lent: &[u8], r: Record, ours: [usize; 24])
+    requires { ⌜ Parts r (length (now buf)) ⌝ }
+{
+    let bytes = r.bytes;
+    let want = r.want;
+    let end = r.end;
+    said(b"first difference: record ");
+    print_decimal(STDOUT_FILENO, more(before));
+    said(b" kind ");
+    print_decimal(STDOUT_FILENO, wide(r.kind) as u64);
+    line(b"\ncall ", &buf[8..bytes]);
+    line(b"with ", &buf[bytes..want]);
+    line(b"want ", &buf[want..end]);
+    numbers(ours);
+    line(b"\nlent ", lent);
+}
+
+fn line(name: &[u8], bytes: &[u8]) {
+    said(name);
+    let mut i = 0;
+    while i < bytes.len() {
+        print_hex(STDOUT_FILENO, wide(bytes[i]) as u64, 2);
+        i += 1;
+    }
+    said(b"\n");
+}
+
+fn numbers(ours: [usize; 24]) {
+    said(b"here ");
+    let mut i = 0;
+    while i < 24 {
+        print_hex(STDOUT_FILENO, ours[i] as u64, 16);
+        i += 1;
+    }
+}
+
+pub(crate) fn report(tally: Tally) {
     let cases = tally.cases;
     module(b"buffer_reader", cases[0]);
     module(b"buffer_writer", cases[1]);
     module(b"side_info", cases[2]);
-    module(b"tables", cases[3]);
-    module(b"range_decoder", cases[4]);
-    module(b"range_encoder", cases[5]);
-    module(b"spectral_quantization", cases[6]);
+    module(b"range_decoder", cases[3]);
+    module(b"range_encoder", cases[4]);
+    module(b"spectral_quantization", cases[5]);
+    verdict(tally);
 }
 
 fn module(name: &[u8], cases: u64) {
     if cases == 0 {
         return;
     }
-    write_all(STDOUT_FILENO, name);
-    write_all(STDOUT_FILENO, b": ");
+    said(name);
+    said(b": ");
     print_decimal(STDOUT_FILENO, cases);
-    write_all(STDOUT_FILENO, b" cases\n");
-}
-
-fn first_difference(kept: &[u8], number: u64) {
-    let Taken::Whole(r) = record::next(kept, 0, kept.len()) else {
-        return;
-    };
-    heading(number, r.kind);
-    parts(kept, r);
-}
-
-fn heading(number: u64, kind: u8) {
-    write_all(STDOUT_FILENO, b"first difference: record ");
-    print_decimal(STDOUT_FILENO, number);
-    write_all(STDOUT_FILENO, b" kind ");
-    print_decimal(STDOUT_FILENO, wide(kind) as u64);
-    write_all(STDOUT_FILENO, b"\n");
-}
-
-// The code's answer is made anew: the same case has the same answer.
-fn parts(kept: &[u8], r: Record)
-    requires { ⌜ Parts r (length (now kept)) ⌝ }
-{
-    let case = r.case;
-    let answer = r.answer;
-    let end = r.end;
-    let mut ours = [0u8; 8192];
-    let n = answers::answer(r.kind, &kept[case..answer], &mut ours);
-    line(b"case ", &kept[case..answer]);
-    line(b"want ", &kept[answer..end]);
-    line(b"here ", &ours[0..n]);
-}
-
-fn line(name: &[u8], bytes: &[u8]) {
-    write_all(STDOUT_FILENO, name);
-    hex(bytes);
-    write_all(STDOUT_FILENO, b"\n");
-}
-
-fn hex(bytes: &[u8]) {
-    let mut i = 0;
-    while i < bytes.len() {
-        print_hex(STDOUT_FILENO, wide(bytes[i]) as u64, 2);
-        i += 1;
-    }
-}
-
-fn malformed(records: u64) {
-    write_all(STDOUT_FILENO, b"malformed record ");
-    print_decimal(STDOUT_FILENO, more(records));
-    write_all(STDOUT_FILENO, b"\n");
+    said(b" cases\n");
 }
 
 fn verdict(tally: Tally) {
     if tally.is_malformed {
-        write_all(STDOUT_FILENO, b"malformed\n");
+        said(b"malformed record ");
+        print_decimal(STDOUT_FILENO, more(tally.records));
+        said(b"\n");
     } else if tally.records == 0 {
-        write_all(STDOUT_FILENO, b"no cases\n");
+        said(b"no cases\n");
     } else if tally.differ == 0 {
-        write_all(STDOUT_FILENO, b"all agree\n");
+        said(b"all agree\n");
     } else {
         print_decimal(STDOUT_FILENO, tally.differ);
-        write_all(STDOUT_FILENO, b" differ\n");
+        said(b" differ\n");
     }
 }

@@ -1,11 +1,13 @@
-// What is counted from record to record: in all, and by module.
-ghost use Prim.Native.Nat.{_<_};
+// What is kept from record to record: counts, in all and by module, and how many bytes are lent.
+ghost use mathlib.Core.Path.{_≡_};
+use crate::number::wide;
 
 pub(crate) struct Tally {
     pub(crate) cases: [u64; 8],
     pub(crate) records: u64,
     pub(crate) differ: u64,
-    pub(crate) first: u64,
+    pub(crate) lent: usize,
+    pub(crate) is_going: bool,
     pub(crate) is_malformed: bool,
 }
 
@@ -15,41 +17,54 @@ pub(crate) fn more(count: u64) -> u64 {
 }
 
 impl Tally {
-    pub(crate) fn new() -> Self {
+    pub(crate) fn new() -> Self
+        ensures { λ t. ⌜ t .lent ≡ 0 ⌝ }
+    {
         Self {
             cases: [0; 8],
             records: 0,
             differ: 0,
-            first: 0,
+            lent: 0,
+            is_going: true,
             is_malformed: false,
         }
     }
 
-    pub(crate) fn counted(self, place: usize) -> Self
-        requires { ⌜ place < 8 ⌝ }
+    // The kinds of a module are sixteen.
+    pub(crate) fn counted(self, kind: u8) -> Self
+        ensures { λ t. ⌜ t .lent ≡ self .lent ⌝ }
     {
         let mut all = self;
         let mut cases = self.cases;
+        let place = wide(kind) / 16 % 8;
         cases[place] = more(cases[place]);
         all.cases = cases;
         all.records = more(self.records);
         all
     }
 
-    pub(crate) fn differed(self, place: usize) -> Self
-        requires { ⌜ place < 8 ⌝ }
+    pub(crate) fn differed(self, kind: u8) -> Self
+        ensures { λ t. ⌜ t .lent ≡ self .lent ⌝ }
     {
-        let mut all = self.counted(place);
+        let mut all = self.counted(kind);
         all.differ = more(self.differ);
-        if self.differ == 0 {
-            all.first = all.records;
-        }
         all
     }
 
-    pub(crate) fn malformed(self) -> Self {
+    pub(crate) fn lends(self, count: usize) -> Self
+        ensures { λ t. ⌜ t .lent ≡ count ⌝ }
+    {
         let mut all = self;
-        all.is_malformed = true;
+        all.lent = count;
+        all
+    }
+
+    pub(crate) fn ended(self, is_malformed: bool) -> Self
+        ensures { λ t. ⌜ t .lent ≡ self .lent ⌝ }
+    {
+        let mut all = self;
+        all.is_going = false;
+        all.is_malformed = is_malformed;
         all
     }
 }

@@ -1,18 +1,18 @@
--- `vectors::run` is safe and ends. The invariant: the bytes that are not replayed yet stand in the buffer, and both
--- buffers keep their lengths. The measure is the number of turns that are left. Assumes nothing.
+-- `vectors::run` is safe and ends. The invariant: both buffers keep their lengths, and what is lent stands in its own. The
+-- measure is the number of turns that are left. Assumes nothing.
+use Prim.Native.Nat.{_≤_}
 use mathlib.Core.Path.{_≡_}
 use lib.ListN.{length}
 use borrow.Author.Needs.{needs}
-use Rattle.vectors.specs.Place.{Held}
 use Rattle.vectors.proofs.run.Statement.{statement}
 use Rattle.vectors.proofs.run.Tie as tie
 
 abbrev Inv-loop : tie.InvT-loop
-Inv-loop buf₀ kept₀ state₀ turns₀ buf kept state turns =
-    Held state (length buf) × (length buf ≡ length buf₀) × (length kept ≡ length kept₀)
+Inv-loop buf₀ lent₀ tally₀ turns₀ buf lent tally turns =
+    (length buf ≡ 65536) × (length buf₀ ≡ 65536) × (length lent ≡ 65536) × (length lent₀ ≡ 65536) × (tally .lent ≤ 65536)
 
 abbrev μ-loop : tie.MeasureT-loop
-μ-loop buf₀ kept₀ state₀ turns₀ buf kept state turns = turns
+μ-loop buf₀ lent₀ tally₀ turns₀ buf lent tally turns = turns
 
 new-requires : tie.Need-new-requires Inv-loop μ-loop
 new-requires c κs = search needs
@@ -41,6 +41,15 @@ same-length-2 c = search needs
 returns : tie.Need-returns Inv-loop μ-loop
 returns c = search needs
 
+same-length-3 : tie.Need-same-length-3 Inv-loop μ-loop
+same-length-3 c = search needs
+
+same-length-4 : tie.Need-same-length-4 Inv-loop μ-loop
+same-length-4 c = search needs
+
+returns-2 : tie.Need-returns-2 Inv-loop μ-loop
+returns-2 c = search needs
+
 pub run-spec : {M : Type 1} → statement M
 run-spec =
     tie.close
@@ -55,4 +64,7 @@ run-spec =
     loop-again
     same-length
     same-length-2
-    returns)
+    returns
+    same-length-3
+    same-length-4
+    returns-2)

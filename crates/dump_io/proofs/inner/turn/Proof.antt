@@ -3,7 +3,7 @@
 use Rattle.dumping.specs.declared.State.{State}
 use mathlib.Core.Path.{sym, ap, _∙_}
 use mathlib.Core.Bool.{false≢true}
-use Rattle.dumping.specs.Steps.{Held}
+use Rattle.dumping.specs.Dump.{Held}
 use Rattle.dumping.proofs.Theorems.{step-onward}
 use borrow.Author.Needs.{needs}
 use Rattle.dump_io.proofs.inner.turn.Statement.{statement}

@@ -3,7 +3,7 @@
 use mathlib.Core.Path.{refl, sym, ap, _∙_}
 use native.Mathlib.Omega.{arith}
 use Rattle.recording.specs.Tagged.{answerOf}
-use Rattle.dumping.specs.Steps.{Held}
+use Rattle.dumping.specs.Dump.{Held}
 use Rattle.dumping.proofs.Parts.{field-lies, step-found}
 use borrow.Author.Needs.{needs}
 use Rattle.dumping.proofs.inner.step.Statement.{statement}

@@ -1,8 +1,9 @@
 -- `writer::write_frame` meets its contract: 18 is judged before anything else, a refused frame leaves the part behind the header as it
 -- was, and the header is laid only before a frame that is written. Assumes nothing.
-use Prim.Native.Nat.{_+_, _-_, _≤_}
+use Prim.Native.Nat.{ℕ, _+_, _-_, _≤_}
 use mathlib.Core.Path.{_≡_, refl, sym, ap, _∙_}
 use mathlib.Core.Bool.{true}
+use mathlib.Core.List.{List}
 use native.Mathlib.Omega.{arith}
 use lib.Dec.{leb}
 use lib.ListN.{length}
@@ -42,9 +43,26 @@ returns-2 c =
     let x = room-refused k t w (a .bytes) (a .offset) (a .buffer .now) (le-leb (a .bytes) fieldMost (c .before .before .if1 .left)) (refuted (c .before .within .ensures) (c .if2 .taken)) in
     (x .told-is, x .lent-is)
 
--- behind both tests the field lies within the buffer
+-- behind both tests the frame is not longer than a field may be, and the field lies within the buffer
+short : (c : tie.Else2) → leb (c .before .before .before .before .before .before .before .before .before .before .args .bytes) fieldMost ≡ true
+short c = le-leb _ fieldMost (c .before .before .if1 .left)
+
+within : (c : tie.Else2) → leb (c .before .before .before .before .before .before .before .before .before .before .args .offset + (3 + c .before .before .before .before .before .before .before .before .before .before .args .bytes)) (length (c .before .before .before .before .before .before .before .before .before .before .args .buffer .now)) ≡ true
+within c = confirmed (c .before .within .ensures) (c .if2 .left)
+
 room : (c : tie.Else2) → c .before .before .before .before .before .before .before .before .before .before .args .offset + (3 + c .before .before .before .before .before .before .before .before .before .before .args .bytes) ≤ length (c .before .before .before .before .before .before .before .before .before .before .args .buffer .now)
-room c = leb-true _ _ (confirmed (c .before .within .ensures) (c .if2 .left))
+room c = leb-true _ _ (within c)
+
+-- the part behind the header, and its size
+abbrev part : tie.Else2 → List ℕ
+part c =
+    let a = c .before .before .before .before .before .before .before .before .before .before .args in
+    midOf (a .offset + 3) (a .offset + 3 + a .bytes - (a .offset + 3)) (a .buffer .now)
+
+size : (c : tie.Else2) → length (part c) ≡ c .before .before .before .before .before .before .before .before .before .before .args .bytes
+size c =
+    let a = c .before .before .before .before .before .before .before .before .before .before .args in
+    mid-len (a .offset + 3) (a .offset + 3 + a .bytes) (a .buffer .now) (omega (arith, room c)) ∙ omega arith
 
 add-at : tie.Need-add-at
 add-at c = search (room c, needs)
@@ -83,13 +101,8 @@ returns-3 c =
     let k = a .configuration in
     let t : Tables = record { lookup = a .lookup .now; frequencies = a .frequencies .now; bits = a .bits .now; orders = a .orders .now; coefficients = a .coefficients .now } in
     let w : Content = record { side = a .side; first = a .first-order; second = a .second-order; indices = a .indices; lines = a .lines .now; residual = a .residual .now } in
-    let b = a .buffer .now in
-    let part = midOf (a .offset + 3) (a .offset + 3 + a .bytes - (a .offset + 3)) b in
-    let fits = room (c .before .before .before .before .before .before .before) in
-    let size : length part ≡ a .bytes = mid-len (a .offset + 3) (a .offset + 3 + a .bytes) b (omega (arith, fits)) ∙ omega arith in
-    let short = le-leb (a .bytes) fieldMost (c .before .before .before .before .before .before .before .before .before .if1 .left) in
-    let within = confirmed (c .before .before .before .before .before .before .before .before .within .ensures) (c .before .before .before .before .before .before .before .if2 .left) in
-    let x = frame-refused k t w (a .bytes) (a .offset) b short within part _ _ refl size (sym (ap writtenOf (c .before .e .given .1)) ∙ c .before .before .before .before .before .write .ensures .0) (c .before .before .before .before .before .write .ensures .1) in
+    let e = c .before .before .before .before .before .before .before in
+    let x = frame-refused k t w (a .bytes) (a .offset) (a .buffer .now) (short e) (within e) (part e) _ _ refl (size e) (sym (ap writtenOf (c .before .e .given .1)) ∙ c .before .before .before .before .before .write .ensures .0) (c .before .before .before .before .before .write .ensures .1) in
     (x .told-is, x .lent-is)
 
 same-length-2 : tie.Need-same-length-2
@@ -101,13 +114,8 @@ returns-4 c =
     let k = a .configuration in
     let t : Tables = record { lookup = a .lookup .now; frequencies = a .frequencies .now; bits = a .bits .now; orders = a .orders .now; coefficients = a .coefficients .now } in
     let w : Content = record { side = a .side; first = a .first-order; second = a .second-order; indices = a .indices; lines = a .lines .now; residual = a .residual .now } in
-    let b = a .buffer .now in
-    let part = midOf (a .offset + 3) (a .offset + 3 + a .bytes - (a .offset + 3)) b in
-    let fits = room (c .before .before .before .before .before .before .before .before .before .before) in
-    let size : length part ≡ a .bytes = mid-len (a .offset + 3) (a .offset + 3 + a .bytes) b (omega (arith, fits)) ∙ omega arith in
-    let short = le-leb (a .bytes) fieldMost (c .before .before .before .before .before .before .before .before .before .before .before .before .if1 .left) in
-    let within = confirmed (c .before .before .before .before .before .before .before .before .before .before .before .within .ensures) (c .before .before .before .before .before .before .before .before .before .before .if2 .left) in
-    let x = frame-written k t w (a .bytes) (a .offset) b short within part _ _ size (sym (ap writtenOf (c .before .before .before .before .enum-told .given .1)) ∙ c .before .before .before .before .before .before .before .before .write .ensures .0) (c .before .before .before .before .before .before .before .before .write .ensures .1) (c .before .before .put-header .ensures) in
+    let e = c .before .before .before .before .before .before .before .before .before .before in
+    let x = frame-written k t w (a .bytes) (a .offset) (a .buffer .now) (short e) (within e) (part e) _ _ (size e) (sym (ap writtenOf (c .before .before .before .before .enum-told .given .1)) ∙ c .before .before .before .before .before .before .before .before .write .ensures .0) (c .before .before .before .before .before .before .before .before .write .ensures .1) (c .before .before .put-header .ensures) in
     (x .told-is, x .lent-is)
 
 pub write-frame-spec : {M : Type 1} → statement M

@@ -12,10 +12,10 @@ use Rattle.vectors.proofs.encoder_cases.encode_all.Statement.{statement
 use Rattle.vectors.proofs.encoder_cases.encode_all.Tie as tie
 
 abbrev Inv-loop : tie.InvT-loop
-Inv-loop words list buf₀ st₀ i₀ buf st i = (i ≤ length list / 3) × (length buf ≡ length buf₀) × (Sound st) × (shiftsOf st ≤ length buf) × (length list ≤ 18446744073709551615)
+Inv-loop list buf₀ st₀ i₀ buf st i = (i ≤ length list / 4) × (length buf ≡ length buf₀) × (Sound st) × (shiftsOf st ≤ length buf) × (length list ≤ 18446744073709551615)
 
 abbrev μ-loop : tie.MeasureT-loop
-μ-loop words list buf₀ st₀ i₀ buf st i = length list / 3 - i
+μ-loop list buf₀ st₀ i₀ buf st i = length list / 4 - i
 
 ac-enc-init-requires : tie.Need-ac-enc-init-requires Inv-loop μ-loop
 ac-enc-init-requires c κs = search needs
@@ -25,8 +25,23 @@ loop-holds c =
     let start = c .ac-enc-init .ensures in
     (omega arith, refl, rw start sound-start, rw start (omega arith), search needs)
 
-share-at-requires : tie.Need-share-at-requires Inv-loop μ-loop
-share-at-requires c κs = search needs
+mul-two : tie.Need-mul-two Inv-loop μ-loop
+mul-two c = search needs
+
+two-requires : tie.Need-two-requires Inv-loop μ-loop
+two-requires c κs = search needs
+
+mul-two-2 : tie.Need-mul-two-2 Inv-loop μ-loop
+mul-two-2 c = search needs
+
+add-two : tie.Need-add-two Inv-loop μ-loop
+add-two c = search needs
+
+two-requires-2 : tie.Need-two-requires-2 Inv-loop μ-loop
+two-requires-2 c κs = search needs
+
+add-if2 : tie.Need-add-if2 Inv-loop μ-loop
+add-if2 c = search needs
 
 same-length : tie.Need-same-length Inv-loop μ-loop
 same-length c = search needs
@@ -34,20 +49,26 @@ same-length c = search needs
 returns : tie.Need-returns Inv-loop μ-loop
 returns c = search needs
 
-add-if2 : tie.Need-add-if2 Inv-loop μ-loop
-add-if2 c = search needs
+add-if3 : tie.Need-add-if3 Inv-loop μ-loop
+add-if3 c = search needs
 
-add-if2-2 : tie.Need-add-if2-2 Inv-loop μ-loop
-add-if2-2 c = search needs
+add-if3-2 : tie.Need-add-if3-2 Inv-loop μ-loop
+add-if3-2 c = search needs
 
-add-if2-3 : tie.Need-add-if2-3 Inv-loop μ-loop
-add-if2-3 c = search needs
+add-if3-3 : tie.Need-add-if3-3 Inv-loop μ-loop
+add-if3-3 c = search needs
 
 same-length-2 : tie.Need-same-length-2 Inv-loop μ-loop
 same-length-2 c = search needs
 
 returns-2 : tie.Need-returns-2 Inv-loop μ-loop
-returns-2 c = search needs
+returns-2 c = (search needs, omega arith)
+
+cast-encode-one : tie.Need-cast-encode-one Inv-loop μ-loop
+cast-encode-one c = search needs
+
+cast-encode-one-2 : tie.Need-cast-encode-one-2 Inv-loop μ-loop
+cast-encode-one-2 c = search needs
 
 encode-one-requires : tie.Need-encode-one-requires Inv-loop μ-loop
 encode-one-requires c κs = (search needs, search needs, search needs, omega arith, omega arith)
@@ -65,7 +86,7 @@ same-length-3 : tie.Need-same-length-3 Inv-loop μ-loop
 same-length-3 c = search needs
 
 returns-3 : tie.Need-returns-3 Inv-loop μ-loop
-returns-3 c = search needs
+returns-3 c = (search needs, omega arith)
 
 pub encode-all-spec : {M : Type 1} → statement M
 encode-all-spec =
@@ -75,14 +96,21 @@ encode-all-spec =
     μ-loop
     ac-enc-init-requires
     loop-holds
-    share-at-requires
+    mul-two
+    two-requires
+    mul-two-2
+    add-two
+    two-requires-2
+    add-if2
     same-length
     returns
-    add-if2
-    add-if2-2
-    add-if2-3
+    add-if3
+    add-if3-2
+    add-if3-3
     same-length-2
     returns-2
+    cast-encode-one
+    cast-encode-one-2
     encode-one-requires
     add-i
     loop-less

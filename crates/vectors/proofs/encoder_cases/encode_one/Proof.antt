@@ -10,7 +10,7 @@ ac-encode-requires : tie.Need-ac-encode-requires
 ac-encode-requires c κs =
     let a = c .before .before .args in
     let p = c .before .before .pre in
-    (p .0 .fits, p .2, omega (arith, p .3, encoded-adds (a .st) (a .share .cumulative) (a .share .frequency)), p .4)
+    (p .0 .fits, p .2, omega (arith, p .3, encoded-adds (a .st) (a .cumulative) (a .frequency)), p .4)
 
 same-length : tie.Need-same-length
 same-length c = search needs
@@ -21,7 +21,7 @@ returns c =
     let p = c .before .before .before .before .before .pre in
     let r = c .before .before .ac-encode in
     rw (r .ensures .0)
-    (encoded-sound (a .st) (a .share .cumulative) (a .share .frequency) (p .0) (p .1) (p .2), omega (arith, p .3, encoded-adds (a .st) (a .share .cumulative) (a .share .frequency)))
+    (encoded-sound (a .st) (a .cumulative) (a .frequency) (p .0) (p .1) (p .2), omega (arith, p .3, encoded-adds (a .st) (a .cumulative) (a .frequency)))
 
 pub encode-one-spec : {M : Type 1} → statement M
 encode-one-spec = tie.close (tie.spec ac-encode-requires same-length returns)

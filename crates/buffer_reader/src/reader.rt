@@ -1,0 +1,158 @@
+// A reader that holds the frame and both cursors: thin functions over the cursor's reads. A read moves it, or refuses and leaves it.
+ghost use mathlib.Core.Path.{_≡_};
+ghost use mathlib.Core.Bool.{cond};
+ghost use Rattle.buffer_reader.specs.Reads.{takeByte, takeThree, takeBits};
+ghost use Rattle.buffer_reader.specs.Reader.{takeFlag, standing, valueOf, takenOf, behind};
+ghost use Rattle.buffer_reader.specs.Private.{Moves, cursorAt};
+use crate::BufferError;
+use crate::Cursor;
+
+pub struct Reader<'a> {
+    pub frame: &'a [u8],
+    pub head: usize,
+    pub tail: usize,
+}
+
+// What a read gave: a byte, the number of three bytes, a field, or a bit as 0 or 1.
+pub enum Taken {
+    Value(u32),
+    Refused(BufferError),
+}
+
+// Where the reader stands behind a read, and what the read gave.
+pub(crate) struct Moved {
+    pub head: usize,
+    pub tail: usize,
+    pub taken: Taken,
+}
+
+// The cursor's read gave a value, and left the cursor at next.
+fn went(value: u32, next: Cursor) -> Moved
+    ensures { λ r. ⌜ (r .head ≡ next .head) × (r .tail ≡ next .tail) × (r .taken ≡ Taken.Value value) ⌝ }
+{
+    Moved {
+        head: next.head,
+        tail: next.tail,
+        taken: Taken::Value(value),
+    }
+}
+
+// It was refused, and the reader stands where it was.
+fn stayed(at: Cursor, e: BufferError) -> Moved
+    ensures { λ r. ⌜ (r .head ≡ at .head) × (r .tail ≡ at .tail) × (r .taken ≡ Taken.Refused e) ⌝ }
+{
+    Moved {
+        head: at.head,
+        tail: at.tail,
+        taken: Taken::Refused(e),
+    }
+}
+
+// Each of these is the cursor's own read, as the reader wants it: the cursors and what was given apart.
+fn byte_at(frame: &[u8], head: usize, tail: usize) -> Moved
+    ensures { λ r. ⌜ Moves r (cursorAt head tail) (takeByte (now (frame .entry)) (cursorAt head tail)) ⌝ }
+{
+    let at = Cursor { head, tail };
+    match at.take_byte(frame) {
+        crate::ByteRead::Byte(byte, next) => went(common::inner::wide(byte), next),
+        crate::ByteRead::Refused(e) => stayed(at, e),
+    }
+}
+
+fn three_at(frame: &[u8], head: usize, tail: usize) -> Moved
+    ensures { λ r. ⌜ Moves r (cursorAt head tail) (takeThree (now (frame .entry)) (cursorAt head tail)) ⌝ }
+{
+    let at = Cursor { head, tail };
+    match at.take_three(frame) {
+        crate::ThreeRead::Three(three, next) => went(three, next),
+        crate::ThreeRead::Refused(e) => stayed(at, e),
+    }
+}
+
+fn bits_at(frame: &[u8], head: usize, tail: usize, num_bits: usize) -> Moved
+    ensures { λ r. ⌜ Moves r (cursorAt head tail) (takeBits (now (frame .entry)) (cursorAt head tail) «num_bits») ⌝ }
+{
+    let at = Cursor { head, tail };
+    match at.take_bits(frame, num_bits) {
+        crate::BitsRead::Bits(bits, next) => went(bits, next),
+        crate::BitsRead::Refused(e) => stayed(at, e),
+    }
+}
+
+fn flag(bit: bool) -> u32
+    ensures { λ r. ⌜ r ≡ cond bit 1 0 ⌝ }
+{
+    if bit { 1 } else { 0 }
+}
+
+fn bit_at(frame: &[u8], head: usize, tail: usize) -> Moved
+    ensures { λ r. ⌜ Moves r (cursorAt head tail) (takeFlag (now (frame .entry)) (cursorAt head tail)) ⌝ }
+{
+    let at = Cursor { head, tail };
+    match at.take_bit(frame) {
+        crate::BitRead::Bit(bit, next) => went(flag(bit), next),
+        crate::BitRead::Refused(e) => stayed(at, e),
+    }
+}
+
+impl<'a> Reader<'a> {
+    pub fn new(frame: &'a [u8]) -> Self
+        ensures { λ r. ⌜ (r .frame ≡ frame .entry) × (r .head ≡ 0) × (r .tail ≡ 0) ⌝ }
+    {
+        Self {
+            frame,
+            head: 0,
+            tail: 0,
+        }
+    }
+
+    // Where it stands.
+    pub fn at(self) -> Cursor
+        ensures { λ r. ⌜ r ≡ standing (self .entry) ⌝ }
+    {
+        Cursor {
+            head: self.head,
+            tail: self.tail,
+        }
+    }
+
+    // The next byte from the head.
+    pub fn take_byte(&mut self) -> Taken
+        ensures { λ r. ⌜ (takenOf r ≡ valueOf (takeByte (now (now (self .entry) .frame)) (standing (now (self .entry))))) × (now (self .exit) ≡ behind (now (self .entry)) (takeByte (now (now (self .entry) .frame)) (standing (now (self .entry))))) ⌝ }
+    {
+        let moved = byte_at(self.frame, self.head, self.tail);
+        self.head = moved.head;
+        self.tail = moved.tail;
+        moved.taken
+    }
+
+    // The decoder's start: the next three bytes from the head.
+    pub fn take_three(&mut self) -> Taken
+        ensures { λ r. ⌜ (takenOf r ≡ valueOf (takeThree (now (now (self .entry) .frame)) (standing (now (self .entry))))) × (now (self .exit) ≡ behind (now (self .entry)) (takeThree (now (now (self .entry) .frame)) (standing (now (self .entry))))) ⌝ }
+    {
+        let moved = three_at(self.frame, self.head, self.tail);
+        self.head = moved.head;
+        self.tail = moved.tail;
+        moved.taken
+    }
+
+    // A field of so many bits from the tail.
+    pub fn take_bits(&mut self, num_bits: usize) -> Taken
+        ensures { λ r. ⌜ (takenOf r ≡ valueOf (takeBits (now (now (self .entry) .frame)) (standing (now (self .entry))) «num_bits»)) × (now (self .exit) ≡ behind (now (self .entry)) (takeBits (now (now (self .entry) .frame)) (standing (now (self .entry))) «num_bits»)) ⌝ }
+    {
+        let moved = bits_at(self.frame, self.head, self.tail, num_bits);
+        self.head = moved.head;
+        self.tail = moved.tail;
+        moved.taken
+    }
+
+    // One bit from the tail, as 0 or 1.
+    pub fn take_bit(&mut self) -> Taken
+        ensures { λ r. ⌜ (takenOf r ≡ valueOf (takeFlag (now (now (self .entry) .frame)) (standing (now (self .entry))))) × (now (self .exit) ≡ behind (now (self .entry)) (takeFlag (now (now (self .entry) .frame)) (standing (now (self .entry))))) ⌝ }
+    {
+        let moved = bit_at(self.frame, self.head, self.tail);
+        self.head = moved.head;
+        self.tail = moved.tail;
+        moved.taken
+    }
+}

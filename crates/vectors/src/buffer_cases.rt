@@ -1,0 +1,75 @@
+// Calls of buffer_reader and buffer_writer: head, tail, width and value; the bytes are the buffer.
+use crate::answers::of_buffer;
+use crate::answers::told;
+use crate::number::low;
+use crate::number::word;
+use buffer_reader::Cursor;
+use buffer_reader::reader::Taken;
+use buffer_writer::Written;
+use forms::inner::Reached;
+
+pub(crate) fn cursor(n: [usize; 24]) -> Cursor {
+    Cursor {
+        head: n[0],
+        tail: n[1],
+    }
+}
+
+// Each read goes through the reader that holds the frame, and so through the cursor's own read.
+pub(crate) fn read(kind: u8, n: [usize; 24], buf: &[u8]) -> [usize; 24] {
+    let at = cursor(n);
+    match kind {
+        1 => reached(at, forms::inner::byte_by(buf, at)),
+        2 => reached(at, forms::inner::three_by(buf, at)),
+        3 => reached(at, forms::inner::bits_by(buf, at, n[2])),
+        _ => reached(at, forms::inner::bit_by(buf, at)),
+    }
+}
+
+// A refused read has to leave the reader where it was: if not, the answer is none that a call gives.
+fn reached(at: Cursor, r: Reached) -> [usize; 24] {
+    let head = r.head;
+    let tail = r.tail;
+    let taken = r.taken;
+    match taken {
+        Taken::Value(value) => accepted(word(value), Cursor { head, tail }),
+        Taken::Refused(why) => {
+            if head != at.head {
+                return moved();
+            }
+            if tail != at.tail {
+                return moved();
+            }
+            of_buffer(why)
+        }
+    }
+}
+
+pub(crate) fn moved() -> [usize; 24] {
+    told(255, 0, 0, 0, 0, 0)
+}
+
+// Where the next call begins, and what was read.
+pub(crate) fn accepted(value: usize, next: Cursor) -> [usize; 24] {
+    told(0, next.head, next.tail, value, 0, 0)
+}
+
+pub(crate) fn write(kind: u8, n: [usize; 24], buf: &mut [u8]) -> [usize; 24] {
+    match written(kind, n, buf) {
+        Written::At(next) => accepted(0, next),
+        Written::Refused(why) => of_buffer(why),
+    }
+}
+
+fn written(kind: u8, n: [usize; 24], buf: &mut [u8]) -> Written {
+    let at = cursor(n);
+    let width = n[2];
+    let value = n[3];
+    let byte = (value % 256) as u8;
+    match kind {
+        17 => buffer_writer::write_uint_backward(buf, at, low(value), width),
+        18 => buffer_writer::write_bool_backward(buf, at, value == 1),
+        19 => buffer_writer::write_byte_forward(buf, at, byte),
+        _ => buffer_writer::write_uint_forward(buf, at, byte, width),
+    }
+}
