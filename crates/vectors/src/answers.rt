@@ -43,7 +43,7 @@ pub(crate) fn told(
     all
 }
 
-// What no answer is that is expected: of a call that is none, or that its module does not take.
+// What no answer is that is expected: of a call that is none, that its module does not take, or that moves what it has to leave.
 pub(crate) fn none() -> [usize; 24] {
     told(255, 0, 0, 0, 0, 0)
 }

@@ -1,4 +1,5 @@
 // Calls of buffer_reader and buffer_writer: head, tail, width and value; the bytes are the buffer.
+use crate::answers::none;
 use crate::answers::of_buffer;
 use crate::answers::told;
 use crate::number::low;
@@ -26,7 +27,7 @@ pub(crate) fn read(kind: u8, n: [usize; 24], buf: &[u8]) -> [usize; 24] {
     }
 }
 
-// A refused read has to leave the reader where it was: if not, the answer is none that a call gives.
+// A refused read has to leave the reader where it was: if not, the answer is none that is expected.
 fn reached(at: Cursor, r: Reached) -> [usize; 24] {
     let head = r.head;
     let tail = r.tail;
@@ -35,18 +36,14 @@ fn reached(at: Cursor, r: Reached) -> [usize; 24] {
         Taken::Value(value) => accepted(word(value), Cursor { head, tail }),
         Taken::Refused(why) => {
             if head != at.head {
-                return moved();
+                return none();
             }
             if tail != at.tail {
-                return moved();
+                return none();
             }
             of_buffer(why)
         }
     }
-}
-
-pub(crate) fn moved() -> [usize; 24] {
-    told(255, 0, 0, 0, 0, 0)
 }
 
 // Where the next call begins, and what was read.

@@ -1,9 +1,9 @@
 // Calls of range_decoder: head, tail, low and range. At the start the bytes are the frame; at a step they are the row, and the
 // frame is lent. A step is made on a lent state, and so by value too.
+use crate::answers::none;
 use crate::answers::of_codec;
 use crate::answers::told;
 use crate::buffer_cases::cursor;
-use crate::buffer_cases::moved;
 use crate::lists;
 use crate::number::low;
 use crate::number::word;
@@ -33,10 +33,10 @@ pub(crate) fn step(n: [usize; 24], row: &[u8], frame: &[u8]) -> [usize; 24] {
         SymbolAt::Symbol(symbol, next) => accepted(symbol, behind, next),
         SymbolAt::Refused(why) => {
             if behind.low != state.low {
-                return moved();
+                return none();
             }
             if behind.range != state.range {
-                return moved();
+                return none();
             }
             of_codec(why)
         }
