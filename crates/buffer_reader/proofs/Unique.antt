@@ -6,7 +6,6 @@ use lib.Dec.{eqb}
 use lib.ListN.{getD}
 use Rattle.common.specs.Reply.{Reply, Answer, accepted, refused}
 use Rattle.common.proofs.Unique.{from-back}
-use Prim.Native.Nat.{ℕ}
 use Rattle.buffer_reader.specs.Reads.{replyOf, byteOf, threeOf, bitsOf, bitOf}
 use Rattle.buffer_reader.specs.Reader.{takenOf}
 use Rattle.buffer_reader.specs.declared.BufferError.{BufferError}
@@ -36,51 +35,29 @@ error-back (WidthNotListed n) = refl
 error-back (NoTailRoom n b) = refl
 error-back (PastEnd h) = refl
 
--- an answer of some enum, by what it makes of a value and of a refusal
-module _ {A E : Type 0} (value : A → E) (error : BufferError → E) where
-  unfoldable pub backFrom : Answer A → E
-  backFrom (accepted a) = value a
-  backFrom (refused r) = error (errorBack r)
+-- an enum of a value and of a refusal, by its answer; a refusal is found again by its reply
+abbrev backFrom : {A E X : Type 0} → (A → E) → (X → E) → (Reply → X) → Answer A → E
+backFrom value error errorFrom (accepted a) = value a
+backFrom value error errorFrom (refused r) = error (errorFrom r)
+
+-- it is decided by its answer where it is so found again
+pub answer-unique : {A E X : Type 0} (of : E → Answer A) (value : A → E) (error : X → E) (errorFrom : Reply → X) → ((r : E) → backFrom value error errorFrom (of r) ≡ r) → (a b : E) → of a ≡ of b → a ≡ b
+answer-unique of value error errorFrom = from-back of (backFrom value error errorFrom)
 
 pub error-unique : (a b : BufferError) → replyOf a ≡ replyOf b → a ≡ b
 error-unique = from-back replyOf errorBack error-back
 
 pub byte-unique : (a b : ByteRead) → byteOf a ≡ byteOf b → a ≡ b
-unfolding backFrom
-byte-unique = from-back byteOf (backFrom (λ v. Byte (v .0) (v .1)) ByteRefused) found
-  where
-    found : (r : ByteRead) → backFrom (λ v. Byte (v .0) (v .1)) ByteRefused (byteOf r) ≡ r
-    found (Byte v c) = refl
-    found (ByteRefused e) = ap ByteRefused (error-back e)
+byte-unique = answer-unique byteOf (λ v. Byte (v .0) (v .1)) ByteRefused errorBack (elim [ Byte v c ↦ refl | ByteRefused e ↦ ap ByteRefused (error-back e) ])
 
 pub three-unique : (a b : ThreeRead) → threeOf a ≡ threeOf b → a ≡ b
-unfolding backFrom
-three-unique = from-back threeOf (backFrom (λ v. Three (v .0) (v .1)) ThreeRefused) found
-  where
-    found : (r : ThreeRead) → backFrom (λ v. Three (v .0) (v .1)) ThreeRefused (threeOf r) ≡ r
-    found (Three v c) = refl
-    found (ThreeRefused e) = ap ThreeRefused (error-back e)
+three-unique = answer-unique threeOf (λ v. Three (v .0) (v .1)) ThreeRefused errorBack (elim [ Three v c ↦ refl | ThreeRefused e ↦ ap ThreeRefused (error-back e) ])
 
 pub bits-unique : (a b : BitsRead) → bitsOf a ≡ bitsOf b → a ≡ b
-unfolding backFrom
-bits-unique = from-back bitsOf (backFrom (λ v. Bits (v .0) (v .1)) BitsRefused) found
-  where
-    found : (r : BitsRead) → backFrom (λ v. Bits (v .0) (v .1)) BitsRefused (bitsOf r) ≡ r
-    found (Bits v c) = refl
-    found (BitsRefused e) = ap BitsRefused (error-back e)
+bits-unique = answer-unique bitsOf (λ v. Bits (v .0) (v .1)) BitsRefused errorBack (elim [ Bits v c ↦ refl | BitsRefused e ↦ ap BitsRefused (error-back e) ])
 
 pub bit-unique : (a b : BitRead) → bitOf a ≡ bitOf b → a ≡ b
-unfolding backFrom
-bit-unique = from-back bitOf (backFrom (λ v. Bit (v .0) (v .1)) BitRefused) found
-  where
-    found : (r : BitRead) → backFrom (λ v. Bit (v .0) (v .1)) BitRefused (bitOf r) ≡ r
-    found (Bit v c) = refl
-    found (BitRefused e) = ap BitRefused (error-back e)
+bit-unique = answer-unique bitOf (λ v. Bit (v .0) (v .1)) BitRefused errorBack (elim [ Bit v c ↦ refl | BitRefused e ↦ ap BitRefused (error-back e) ])
 
 pub taken-unique : (a b : Taken) → takenOf a ≡ takenOf b → a ≡ b
-unfolding backFrom
-taken-unique = from-back takenOf (backFrom (λ (v : ℕ). Value v) TakenRefused) found
-  where
-    found : (r : Taken) → backFrom (λ (v : ℕ). Value v) TakenRefused (takenOf r) ≡ r
-    found (Value v) = refl
-    found (TakenRefused e) = ap TakenRefused (error-back e)
+taken-unique = answer-unique takenOf (λ v. Value v) TakenRefused errorBack (elim [ Value v ↦ refl | TakenRefused e ↦ ap TakenRefused (error-back e) ])

@@ -3,10 +3,12 @@
 use Prim.Native.Nat.{ℕ}
 use mathlib.Core.List.{List}
 use Rattle.common.specs.Reply.{Answer, accepted, refused, andThen}
-use Rattle.buffer_reader.specs.Reads.{takeBit, replyOf}
+use Rattle.buffer_reader.specs.Reads.{takeByte, takeThree, takeBits, takeBit, replyOf}
 use Rattle.buffer_reader.specs.Steps.{Reading, asNumber}
 use Rattle.buffer_reader.specs.declared.Cursor.{Cursor}
 use Rattle.buffer_reader.specs.declared.reader.Reader.{Reader}
+use Rattle.buffer_reader.specs.declared.reader.Read.{Read}
+use Rattle.buffer_reader.specs.declared.reader.Read.the-variants.{Byte, Three, Bits, Bit}
 use Rattle.buffer_reader.specs.declared.reader.Taken.{Taken}
 use Rattle.buffer_reader.specs.declared.reader.Taken.the-variants.{Value, Refused}
 
@@ -17,6 +19,13 @@ standing r = record { head = r .head; tail = r .tail }
 -- a bit as 0 or 1
 abbrev pub takeFlag : Reading ℕ
 takeFlag f c = andThen (takeBit f c) asNumber
+
+-- the cursor's read that is meant
+abbrev pub taking : Read → Reading ℕ
+taking Byte = takeByte
+taking Three = takeThree
+taking (Bits n) = λ f c. takeBits f c n
+taking Bit = takeFlag
 
 -- what a read gives: its value, or its refusal
 abbrev pub valueOf : Answer (ℕ × Cursor) → Answer ℕ

@@ -2,7 +2,7 @@
 ghost use mathlib.Core.Path.{_≡_};
 ghost use mathlib.Core.Bool.{cond};
 ghost use Rattle.buffer_reader.specs.Reads.{takeByte, takeThree, takeBits};
-ghost use Rattle.buffer_reader.specs.Reader.{takeFlag, standing, valueOf, takenOf, behind};
+ghost use Rattle.buffer_reader.specs.Reader.{takeFlag, taking, standing, valueOf, takenOf, behind};
 ghost use Rattle.buffer_reader.specs.Private.{Moves, cursorAt};
 use crate::BufferError;
 use crate::Cursor;
@@ -11,6 +11,14 @@ pub struct Reader<'a> {
     pub frame: &'a [u8],
     pub head: usize,
     pub tail: usize,
+}
+
+// Which read: the next byte or three bytes from the head; a field of so many bits, or one bit, from the tail.
+pub enum Read {
+    Byte,
+    Three,
+    Bits(usize),
+    Bit,
 }
 
 // What a read gave: a byte, the number of three bytes, a field, or a bit as 0 or 1.
@@ -95,6 +103,17 @@ fn bit_at(frame: &[u8], head: usize, tail: usize) -> Moved
     }
 }
 
+fn read_at(frame: &[u8], head: usize, tail: usize, read: Read) -> Moved
+    ensures { λ r. ⌜ Moves r (cursorAt head tail) (taking read (now (frame .entry)) (cursorAt head tail)) ⌝ }
+{
+    match read {
+        Read::Byte => byte_at(frame, head, tail),
+        Read::Three => three_at(frame, head, tail),
+        Read::Bits(num_bits) => bits_at(frame, head, tail, num_bits),
+        Read::Bit => bit_at(frame, head, tail),
+    }
+}
+
 impl<'a> Reader<'a> {
     pub fn new(frame: &'a [u8]) -> Self
         ensures { λ r. ⌜ (r .frame ≡ frame .entry) × (r .head ≡ 0) × (r .tail ≡ 0) ⌝ }
@@ -116,41 +135,11 @@ impl<'a> Reader<'a> {
         }
     }
 
-    // The next byte from the head.
-    pub fn take_byte(&mut self) -> Taken
-        ensures { λ r. ⌜ (takenOf r ≡ valueOf (takeByte (now (now (self .entry) .frame)) (standing (now (self .entry))))) × (now (self .exit) ≡ behind (now (self .entry)) (takeByte (now (now (self .entry) .frame)) (standing (now (self .entry))))) ⌝ }
+    // The read moves the reader, or is refused and leaves it.
+    pub fn take(&mut self, read: Read) -> Taken
+        ensures { λ r. ⌜ (takenOf r ≡ valueOf (taking read (now (now (self .entry) .frame)) (standing (now (self .entry))))) × (now (self .exit) ≡ behind (now (self .entry)) (taking read (now (now (self .entry) .frame)) (standing (now (self .entry))))) ⌝ }
     {
-        let moved = byte_at(self.frame, self.head, self.tail);
-        self.head = moved.head;
-        self.tail = moved.tail;
-        moved.taken
-    }
-
-    // The decoder's start: the next three bytes from the head.
-    pub fn take_three(&mut self) -> Taken
-        ensures { λ r. ⌜ (takenOf r ≡ valueOf (takeThree (now (now (self .entry) .frame)) (standing (now (self .entry))))) × (now (self .exit) ≡ behind (now (self .entry)) (takeThree (now (now (self .entry) .frame)) (standing (now (self .entry))))) ⌝ }
-    {
-        let moved = three_at(self.frame, self.head, self.tail);
-        self.head = moved.head;
-        self.tail = moved.tail;
-        moved.taken
-    }
-
-    // A field of so many bits from the tail.
-    pub fn take_bits(&mut self, num_bits: usize) -> Taken
-        ensures { λ r. ⌜ (takenOf r ≡ valueOf (takeBits (now (now (self .entry) .frame)) (standing (now (self .entry))) «num_bits»)) × (now (self .exit) ≡ behind (now (self .entry)) (takeBits (now (now (self .entry) .frame)) (standing (now (self .entry))) «num_bits»)) ⌝ }
-    {
-        let moved = bits_at(self.frame, self.head, self.tail, num_bits);
-        self.head = moved.head;
-        self.tail = moved.tail;
-        moved.taken
-    }
-
-    // One bit from the tail, as 0 or 1.
-    pub fn take_bit(&mut self) -> Taken
-        ensures { λ r. ⌜ (takenOf r ≡ valueOf (takeFlag (now (now (self .entry) .frame)) (standing (now (self .entry))))) × (now (self .exit) ≡ behind (now (self .entry)) (takeFlag (now (now (self .entry) .frame)) (standing (now (self .entry))))) ⌝ }
-    {
-        let moved = bit_at(self.frame, self.head, self.tail);
+        let moved = read_at(self.frame, self.head, self.tail, read);
         self.head = moved.head;
         self.tail = moved.tail;
         moved.taken

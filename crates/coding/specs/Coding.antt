@@ -2,9 +2,9 @@
 -- refusals that a step can meet, "side, start, order (TNS, f), coef (f,k), symbol or bit (pair, level)".
 use Prim.Native.Nat.{ℕ}
 use mathlib.Core.List.{List, [], _∷_}
-use Rattle.common.specs.Reply.{Step, side, start, order, coef, symbol, bit, Reply, accepted, reply, headPastEnd, lowBeyondLimit, inStep, within, andThen}
-use Rattle.buffer_reader.specs.Reads.{takeBit}
-use Rattle.buffer_reader.specs.Steps.{Reading, found, next, asNumber}
+use Rattle.common.specs.Reply.{Step, side, start, order, coef, symbol, bit, Reply, reply, headPastEnd, lowBeyondLimit, inStep, within}
+use Rattle.buffer_reader.specs.Reader.{takeFlag}
+use Rattle.buffer_reader.specs.Steps.{Reading, found, next}
 use Rattle.range_decoder.specs.Decoder.{symbolStep}
 use Rattle.range_decoder.specs.declared.DecoderState.{DecoderState}
 use Rattle.coding.specs.declared.Refusal.{Refusal}
@@ -37,11 +37,8 @@ abbrev pub symbolBy : List ℕ → Coding ℕ
 symbolBy row s = next (symbolStep s row) (λ d. found (record { value = d .symbol; state = d .state }))
 
 -- a tail bit as 0 or 1; the coder stays as it is
-abbrev pub bitNext : Reading ℕ
-bitNext f c = andThen (takeBit f c) asNumber
-
 abbrev pub tailBitBy : Coding ℕ
-tailBitBy s = next bitNext (λ b. done b s)
+tailBitBy s = next takeFlag (λ b. done b s)
 
 -- document 01's number and values of each refusal, and the step that met it
 abbrev pub refusalOf : Refusal → Reply

@@ -4,9 +4,10 @@ ghost use mathlib.Core.Bool.{true, cond};
 ghost use Prim.Native.Nat.{_+_, _*_, _≤_};
 ghost use lib.ListN.{length};
 ghost use Rattle.common.specs.Tables.{rowPasses, rowAt};
+ghost use Rattle.buffer_reader.specs.Reader.{takeFlag};
 ghost use Rattle.buffer_reader.specs.Reads.{replyOf as bufferReply};
 ghost use Rattle.range_decoder.specs.Decoder.{rangePasses, startDecoder, replyOf as codecReply};
-ghost use Rattle.coding.specs.Coding.{refusalOf, symbolBy, bitNext};
+ghost use Rattle.coding.specs.Coding.{refusalOf, symbolBy};
 ghost use Rattle.coding.specs.Private.{InStep, startMetOf, symbolMetOf, bitMetOf};
 use crate::Refusal;
 use buffer_reader::BitRead;
@@ -91,7 +92,7 @@ pub fn symbol(
 // A tail bit as 0 or 1.
 pub fn bit(buf: &[u8], at: Cursor) -> BitMet
     requires { ⌜ length (now buf) ≤ 65535 ⌝ }
-    ensures { λ r. ⌜ bitMetOf r ≡ bitNext (now (buf .entry)) at ⌝ }
+    ensures { λ r. ⌜ bitMetOf r ≡ takeFlag (now (buf .entry)) at ⌝ }
 {
     match at.take_bit(buf) {
         BitRead::Bit(bit, next) => BitMet::Bit(one_if(bit), next),

@@ -3,9 +3,11 @@
 use Prim.Native.Nat.{ℕ, zero, suc, _+_, _*_, _≤_}
 use mathlib.Core.Path.{_≡_, refl, sym, _∙_}
 use mathlib.Core.Bool.{Bool, true, false, not, _&&_}
+use mathlib.Core.List.{[], _∷_}
 use native.Mathlib.Omega.{arith}
 use borrow.Author.Tests.{leb-true, le-leb, not-false}
 use lib.Dec.{leb}
+use lib.ListN.{getD}
 use Rattle.common.proofs.Bools.{and-left, and-right}
 use Rattle.common.specs.Configuration.{configurationPasses, ne, lengthPasses, linesOf, frameLines}
 use Rattle.common.specs.Reply.{Reply, accepted, refused, given, outsideLimits, wrongLength}
@@ -26,22 +28,21 @@ duration-limit c e =
     leb-true _ _
     (and-right (leb (c .«fs_ind») 4) _ (and-left (leb (c .«fs_ind») 4 && leb (c .duration) 1) _ e))
 
+-- a table of five multiples, at each of its places
+multiples : (a fs : ℕ) → fs ≤ 4 → getD (a ∷ 2 * a ∷ 3 * a ∷ 4 * a ∷ 5 * a ∷ []) fs 0 ≡ (fs + 1) * a
+multiples a zero h = omega arith
+multiples a (suc zero) h = refl
+multiples a (suc (suc zero)) h = refl
+multiples a (suc (suc (suc zero))) h = refl
+multiples a (suc (suc (suc (suc zero)))) h = refl
+multiples a (suc (suc (suc (suc (suc n))))) h = absurd (omega arith)
+
 -- 80 lines for each step of the sampling rate at 10 ms, 60 at 7.5 ms
 pub ne-long : (fs : ℕ) → fs ≤ 4 → ne 0 fs ≡ (fs + 1) * 80
-ne-long zero h = refl
-ne-long (suc zero) h = refl
-ne-long (suc (suc zero)) h = refl
-ne-long (suc (suc (suc zero))) h = refl
-ne-long (suc (suc (suc (suc zero)))) h = refl
-ne-long (suc (suc (suc (suc (suc n))))) h = absurd (omega arith)
+ne-long = multiples 80
 
 pub ne-short : (fs : ℕ) → fs ≤ 4 → ne 1 fs ≡ (fs + 1) * 60
-ne-short zero h = refl
-ne-short (suc zero) h = refl
-ne-short (suc (suc zero)) h = refl
-ne-short (suc (suc (suc zero))) h = refl
-ne-short (suc (suc (suc (suc zero)))) h = refl
-ne-short (suc (suc (suc (suc (suc n))))) h = absurd (omega arith)
+ne-short = multiples 60
 
 pub lines-passed : (c : Configuration) → configurationPasses c ≡ true → linesOf c ≡ accepted (ne (c .duration) (c .«fs_ind»))
 lines-passed c e = rw e refl
@@ -91,3 +92,11 @@ ne-range c e = within (c .duration) (c .«fs_ind») (duration-limit c e) (fs-lim
 pub length-limits : (bytes : ℕ) → lengthPasses bytes ≡ true → (20 ≤ bytes) × (bytes ≤ 400)
 length-limits bytes e =
     (leb-true 20 bytes (and-left (leb 20 bytes) (leb bytes 400) e), leb-true bytes 400 (and-right (leb 20 bytes) (leb bytes 400) e))
+
+-- what a call that got past refusals 1 and 2 knows
+pub frame-ranges : (c : Configuration) (bytes : ℕ) {n : ℕ} → frameLines c bytes ≡ accepted n → (c .«fs_ind» ≤ 4) × (60 ≤ n) × (n ≤ 400) × (20 ≤ bytes) × (bytes ≤ 400)
+frame-ranges c bytes e =
+    let known = frame-known c bytes e in
+    let lines = ne-range c (known .0) in
+    let size = length-limits bytes (known .1) in
+    (fs-limit c (known .0), rw (known .2) (lines .0), rw (known .2) (lines .1), size .0, size .1)

@@ -5,10 +5,11 @@ use mathlib.Core.Path.{_≡_, refl}
 use mathlib.Core.Bool.{Bool, true, false}
 use mathlib.Core.Logic.{⊎-elim}
 use native.Mathlib.Omega.{arith}
-use native.Mathlib.Nat.{lt-of-lt-of-le, pow-le-pow-right, eq-or-lt-of-le}
+use native.Mathlib.Nat.{lt-of-lt-of-le, lt-of-le-of-lt, lt-of-not-le, not-le-of-lt, pow-le-pow-right, eq-or-lt-of-le}
 use borrow.Author.Tests.{le-leb, lt-leb}
 use lib.Dec.{leb}
 use lib.Count.{leadingZeros, leading-top}
+use lib.Pow.{pow-mono}
 use Rattle.common.specs.Last.{lastBelow, floorLog2}
 
 -- it holds at k and at no place behind k, so k is the last
@@ -53,3 +54,15 @@ log-law n pos fits = zeros-log n pos fits .1
 -- a number that is not 0 has at most 31 leading zero bits
 pub zeros-most : (n : ℕ) → 0 < n → n < 2 ^ 32 → leadingZeros 32 n ≤ 31
 zeros-most n pos fits = omega (arith, leading-top 32 n pos fits .1)
+
+-- a smaller power of two has a smaller exponent
+power-below : (i j : ℕ) → 2 ^ i < 2 ^ j → i < j
+power-below i j l = lt-of-not-le (λ h. not-le-of-lt l (pow-mono h))
+
+-- between two symbols the floor of the range's logarithm is 16 to 23
+pub log-range : (range : ℕ) → 0x10000 ≤ range → range < 0x1000000 → (16 ≤ floorLog2 range) × (floorLog2 range ≤ 23)
+log-range range least fits =
+    let log : Log range (floorLog2 range) = log-law range (omega arith) (omega arith) in
+    let low : 16 < suc (floorLog2 range) = power-below 16 (suc (floorLog2 range)) (lt-of-le-of-lt least (log .high)) in
+    let high : floorLog2 range < 24 = power-below (floorLog2 range) 24 (lt-of-le-of-lt (log .low) fits) in
+    (omega arith, omega arith)

@@ -3,16 +3,16 @@
 use Prim.Native.Nat.{ℕ, zero, suc, _+_, _-_, _*_, _≤_, _<_}
 use mathlib.Core.Path.{_≡_, refl, ap}
 use mathlib.Core.Bool.{Bool, true, false, _&&_}
-use mathlib.Core.List.{List}
+use mathlib.Core.List.{List, [], _∷_}
 use native.Mathlib.Omega.{arith}
 use native.Mathlib.Numerals.{add-one}
 use native.Mathlib.Nat.{zero-add, add-zero, add-assoc, suc-mul, add-sub-cancel-left}
-use borrow.Author.Tests.{eq-eqb, ne-eqb, lt-leb, le-leb}
+use borrow.Author.Tests.{eq-eqb, ne-eqb, lt-leb, le-leb, leb-true}
 use lib.Dec.{leb, eqb}
 use lib.ListN.{length, getD, take, drop, drop-of-length-le}
 use lib.Seq.{drop-cons, drop-drop}
 use Rattle.common.specs.Tables.{total, allAtLeast, allAtMost, rowPasses, rowsPass, lookupPasses, partPasses}
-use Rattle.common.proofs.Bools.{and-assoc, and-false}
+use Rattle.common.proofs.Bools.{and-left, and-right, and-assoc, and-false}
 
 -- what is left to judge of a row when its first entries total t
 abbrev pub rowFrom : ℕ → List ℕ → Bool
@@ -59,6 +59,12 @@ module _ (m i : ℕ) (xs : List ℕ) (h : i < length xs) where
 pub most-end : (m i : ℕ) (xs : List ℕ) → length xs ≤ i → allAtMost m (drop i xs) ≡ true
 unfolding allAtMost
 most-end m i xs h = rw (drop-of-length-le xs h) refl
+
+pub at-most : (m : ℕ) (xs : List ℕ) (k : ℕ) → allAtMost m xs ≡ true → getD xs k 0 ≤ m
+unfolding allAtMost
+at-most m [] k e = omega arith
+at-most m (x ∷ xs) zero e = leb-true x m (and-left (leb x m) (allAtMost m xs) e)
+at-most m (x ∷ xs) (suc k) e = at-most m xs k (and-right (leb x m) (allAtMost m xs) e)
 
 rows-turn : (left width : ℕ) (xs : List ℕ) → 0 < left → rowsPass left width xs ≡ (rowPasses (take width xs) && rowsPass (left - 1) width (drop width xs))
 unfolding rowsPass

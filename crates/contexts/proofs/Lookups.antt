@@ -1,16 +1,17 @@
 -- A context is made of two traces of at most 15, so with the rate flag and the 256 past half it stays below 1,024, a place in the
 -- lookup below 4,096, and the row found there below 64. Assumes nothing.
-use Prim.Native.Nat.{ℕ, zero, suc, _+_, _*_, _/_, _≤_, _<_, min}
+use Prim.Native.Nat.{ℕ, _+_, _*_, _/_, _≤_, _<_, min}
 use mathlib.Core.Path.{_≡_, refl}
 use mathlib.Core.Bool.{true}
-use mathlib.Core.List.{List, [], _∷_}
+use mathlib.Core.List.{List}
 use native.Mathlib.Omega.{arith}
 use native.Mathlib.Nat.{mul-le-mul, add-zero}
 use borrow.Author.Tests.{lt-ltb, le-ltb, le-leb, lt-leb, leb-true, eqb-true}
 use lib.Dec.{leb, ltb, eqb}
-use lib.ListN.{length, getD}
+use lib.ListN.{length}
 use Rattle.common.specs.Tables.{allAtMost, lookupPasses}
 use Rattle.common.proofs.Bools.{and-left, and-right, by-test}
+use Rattle.common.proofs.Rows.{at-most}
 use Rattle.contexts.specs.Contexts.{rateFlag, lookupStart, rowOf, trace, nextContext, shifted, escapes, contextBehind}
 use Rattle.contexts.proofs.Escapes.{escapes-law}
 
@@ -38,12 +39,6 @@ module _ (c rate ne line : ℕ) where
 
 pub index-low : (t level : ℕ) → t < 1024 → t + 1024 * min level 3 < 4096
 index-low t level h = omega arith
-
-at-most : (m : ℕ) (xs : List ℕ) (k : ℕ) → allAtMost m xs ≡ true → getD xs k 0 ≤ m
-unfolding allAtMost
-at-most m [] k e = omega arith
-at-most m (x ∷ xs) zero e = leb-true x m (and-left (leb x m) (allAtMost m xs) e)
-at-most m (x ∷ xs) (suc k) e = at-most m xs k (and-right (leb x m) (allAtMost m xs) e)
 
 module _ (lookup : List ℕ) (passed : lookupPasses lookup ≡ true) where
   pub lookup-length : length lookup ≡ 4096

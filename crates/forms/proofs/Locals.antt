@@ -23,10 +23,9 @@ use denote.Struct.Rest.{own-shut}
 use Rattle.buffer_reader.specs.declared.Cursor.{Cursor}
 use Rattle.buffer_reader.specs.declared.reader.Reader.{Reader}
 use Rattle.buffer_reader.specs.declared.reader.Taken.{Taken}
-use Rattle.buffer_reader.proofs.Held.{R, D, L, Own, Frame, slice}
+use Rattle.buffer_reader.proofs.Held.{D, L, Own, Frame, slice}
 use Rattle.buffer_reader.proofs.Cursor as K
 use Rattle.buffer_reader.proofs.Cursor.Laws as K′
-use Rattle.buffer_reader.proofs.reader.Reader.Laws as T′
 use Rattle.buffer_reader.proofs.reader.Taken as S
 use Rattle.buffer_reader.proofs.reader.Taken.Laws as S′
 use Rattle.forms.specs.declared.inner.Reached.{Reached}
@@ -37,8 +36,8 @@ use Rattle.forms.proofs.inner.Reached.Laws as N′
 abbrev pub reader : RefT (List ℕ) → Cursor → Reader
 reader s c = record { frame = s; head = c .head; tail = c .tail }
 
-abbrev pub made : Taken → Reader → Reached
-made r z = record { head = z .head; tail = z .tail; taken = r }
+abbrev pub made : Taken → Cursor → Reached
+made r p = record { at = p; taken = r }
 
 -- what a cursor's value tells of its places
 pub at-head : (c : Cursor) → Is K.the-row c (K′.lowered c ∷ []) → c .head < 2 ^ 64
@@ -47,12 +46,15 @@ at-head c c-is = LL.owed K.the-type K′.the-laws c _ c-is .0 .1
 pub at-tail : (c : Cursor) → Is K.the-row c (K′.lowered c ∷ []) → c .tail < 2 ^ 64
 at-tail c c-is = LL.owed K.the-type K′.the-laws c _ c-is .1 .0 .1
 
--- what is told of what a read gave, and of what is handed back
+-- what is told of what a read gave, of where the reader stands, and of what is handed back
 pub taken-is : (r : Taken) (u : Val) → Is S.the-row r (u ∷ []) → Is S.the-row r (EL.vals S.the-type S′.the-laws r)
 taken-is r u got = subst (Is S.the-row r) (EL.tells S.the-type S′.the-laws r _ got) got
 
-pub made-is : (κ : Lft) (r : Taken) (z : Reader) → Is S.the-row r (EL.vals S.the-type S′.the-laws r) → Is (R κ) z (T′.lowered z ∷ []) → Is N.the-row (made r z) (LL.val N.the-type N′.the-laws (made r z) ∷ [])
-made-is κ r z r-is z-is = LL.owes N.the-type N′.the-laws (made r z) ((refl, LL.owed (D κ) (L κ) z _ z-is .1 .0 .1), ((refl, LL.owed (D κ) (L κ) z _ z-is .1 .1 .0 .1), (r-is, tt)))
+pub place-is : (p : Cursor) (u : Val) → Is K.the-row p (u ∷ []) → Is K.the-row p (K′.lowered p ∷ [])
+place-is p u got = subst (Is K.the-row p) (LL.tells K.the-type K′.the-laws p _ got) got
+
+pub made-is : (r : Taken) (p : Cursor) → Is S.the-row r (EL.vals S.the-type S′.the-laws r) → Is K.the-row p (K′.lowered p ∷ []) → Is N.the-row (made r p) (LL.val N.the-type N′.the-laws (made r p) ∷ [])
+made-is r p r-is p-is = LL.owes N.the-type N′.the-laws (made r p) (p-is, (r-is, tt))
 
 module _ {M : Type 1} (𝓤 : URA M) (H : Heap 𝓤) (A : Atoms 𝓤) (W : Given 𝓤 H A) (κ : Lft) (s : RefT (List ℕ)) (c : Cursor) where
   -- the frame is kept, and makes what the reader owns

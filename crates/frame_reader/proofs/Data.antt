@@ -14,14 +14,13 @@ use Rattle.common.specs.Configuration.{ne as lines·ne}
 use Rattle.common.specs.Tables.{Tables}
 use Rattle.common.specs.declared.configuration.Configuration.{Configuration}
 use Rattle.common.proofs.Bools.{and-left, and-right, or-first}
-use Rattle.common.proofs.Configurations.{frame-known}
+use Rattle.common.proofs.Configurations.{frame-known, frame-ranges}
 use Rattle.buffer_reader.specs.Reads.{threeAt}
 use Rattle.buffer_reader.specs.declared.Cursor.{Cursor}
 use Rattle.buffer_reader.proofs.Answers.{three-taken}
 use Rattle.buffer_reader.proofs.Roomy.{Ahead, Ends, ends-then, ends-accepted, ends-refused}
 use Rattle.side_info.specs.Reader.{readAll}
 use Rattle.side_info.specs.declared.SideInfo.{SideInfo}
-use Rattle.side_info.proofs.Answers.{frame-ranges}
 use Rattle.side_info.proofs.SideLimits.{SideLimits, side-limits}
 use Rattle.side_info.proofs.Image.{image-passes}
 use Rattle.side_info.proofs.Start.{Own, side-roomy}
@@ -29,17 +28,16 @@ use Rattle.range_decoder.specs.Decoder.{startDecoder, rangePasses}
 use Rattle.range_decoder.specs.declared.DecoderState.{DecoderState}
 use Rattle.contexts.specs.Contexts.{rateFlag}
 use Rattle.coding.proofs.Keeps
+use Rattle.coding.proofs.Keeps.{HeadMoved, head-here, BothMoved, both-here, both-of-head, keeps-at}
 use Rattle.coding.specs.Coding.{Coded}
 use Rattle.tns_data.specs.Tns.{Tns, readTns, weightingRow}
 use Rattle.tns_data.proofs.Within.{tnsStep, TnsRefusal, TnsWithin, tns-keeps}
 use Rattle.spectral_data.specs.Spectral.{Pair, readPairs}
-use Rattle.spectral_data.proofs.Codings
 use Rattle.spectral_data.proofs.Bounds.{Meets, bitMissing, byteMissing, lowBeyond, All, Sized, Pairs, pairs-going}
 use Rattle.frame_reader.specs.Frame.{Data, readData, startIn}
 use Rattle.frame_reader.specs.Refusals.{standsIn, InFrame}
 use Rattle.frame_reader.specs.Private.{Low, Judged, tablesOf, readCoded}
 use Rattle.frame_reader.proofs.Magnitudes.{EvenPair, pairs-even}
-use Rattle.frame_reader.proofs.Places.{Any, Inside, tns-stays, pairs-stay}
 
 -- ---- refusals, by stage
 
@@ -103,6 +101,15 @@ rate-most r bits fs e = rw e (by (ltb (160 + 160 * fs) bits))
 
 -- ---- the data
 
+-- a cursor behind the coder's start, within the frame
+pub record Inside (f : List ℕ) (c : Cursor) : Type 0 where
+  pub three : 3 ≤ c .head
+  pub head : c .head ≤ length f
+  pub tail : c .tail ≤ 8 * length f
+
+inside-on : {f : List ℕ} {c d : Cursor} → BothMoved f c d → Inside f c → Inside f d
+inside-on m i = record { three = omega (arith, m .head, i .three); head = m .headInside (i .head); tail = m .tailInside (i .tail) }
+
 -- what is known of data that was read, and of the cursor behind it
 pub record Behind (fs ne : ℕ) (f : List ℕ) (r : Data × Cursor) : Type 0 where
   pub limits : SideLimits fs ne (r .0 .side)
@@ -141,35 +148,33 @@ module _ (k : Configuration) (ne : ℕ) (f lookup frequencies orders coefficient
 
   -- behind the TNS data
   tns-ends : (s : SideInfo) (state : DecoderState) (c : Cursor) → rangePasses (state .range) ≡ true →
-      Ends TnsRefusal (Keeps.Behind (TnsWithin (s .«tns_first») (s .«tns_second»)) c) (readingTns s state c)
+      Ends TnsRefusal (Keeps.Behind HeadMoved (TnsWithin (s .«tns_first») (s .«tns_second»)) f c) (readingTns s state c)
   tns-ends s state c ok =
-      tns-keeps orders coefficients (weightingRow (k .duration) bits) (j .orderRows) (j .coefficientRows) (weighting-low (k .duration) bits) (s .«tns_first») (s .«tns_second») .ends state f c short ok
+      tns-keeps orders coefficients (weightingRow (k .duration) bits) (j .orderRows) (j .coefficientRows) (weighting-low (k .duration) bits) (s .«tns_first») (s .«tns_second») .ends state f c c short ok (head-here f c)
 
   pub tns-range : (s : SideInfo) (state : DecoderState) (c : Cursor) → rangePasses (state .range) ≡ true → {x : Coded Tns × Cursor} → readingTns s state c ≡ accepted x → rangePasses (x .0 .state .range) ≡ true
-  tns-range s state c ok e = subst (Ends TnsRefusal (Keeps.Behind (TnsWithin (s .«tns_first») (s .«tns_second»)) c)) e (tns-ends s state c ok) .range
+  tns-range s state c ok e = subst (Ends TnsRefusal (Keeps.Behind HeadMoved (TnsWithin (s .«tns_first») (s .«tns_second»)) f c)) e (tns-ends s state c ok) .range
 
   module _ (s : SideInfo) (limits : SideLimits fs ne s) where
     coded-ends : (state : DecoderState) (c : Cursor) → rangePasses (state .range) ≡ true → Inside f c → Ends InFrame (Behind fs ne f) (readCoded k t bits ne s state f c)
     coded-ends state c ok inside =
-        ends-then InFrame (Behind fs ne f) (Keeps.Behind (TnsWithin (s .«tns_first») (s .«tns_second»)) c) (readingTns s state c) _
+        ends-then InFrame (Behind fs ne f) (Keeps.Behind HeadMoved (TnsWithin (s .«tns_first») (s .«tns_second»)) f c) (readingTns s state c) _
         (ends-refusing TnsRefusal InFrame _ (readingTns s state c) tns-in-frame (tns-ends s state c ok))
-        (λ x e b.
-        let there : Inside f (x .1) = subst (Ends Any (λ r. Inside f (r .1))) e (tns-stays orders coefficients (weightingRow (k .duration) bits) (s .«tns_first») (s .«tns_second») .inside state f c inside) in
-        ends-then InFrame (Behind fs ne f) (Codings.Behind (Pairs (s .lastnz / 2)) (x .1)) (readingPairs s (x .0 .state) (x .1)) _
+        (λ x e b. ends-then InFrame (Behind fs ne f) (Keeps.Behind BothMoved (Pairs Sized (s .lastnz / 2)) f (x .1)) (readingPairs s (x .0 .state) (x .1)) _
         (ends-refusing Meets InFrame _ (readingPairs s (x .0 .state) (x .1)) pairs-in-frame
-        (pairs-going lookup frequencies (j .looked) (j .rows) (eqb (s .lsb) 1) (rateFlag bits fs) ne 0 (s .lastnz / 2) 0 .ends (x .0 .state) f (x .1) short (b .range)))
+        (pairs-going lookup frequencies (j .looked) (j .rows) (eqb (s .lsb) 1) (rateFlag bits fs) ne 0 (s .lastnz / 2) 0 .ends (x .0 .state) f (x .1) (x .1) short (b .range) (both-here f (x .1))))
         (λ y q p.
         let passes = p .range in
         let n = y .0 .state .range in
         record {
           limits = limits;
           filters = b .known;
-          count = p .value .count;
-          sized = p .value .sized;
-          even = λ h. subst (Ends Any (Codings.Behind (All EvenPair) (x .1))) (subst (λ t. readPairs lookup frequencies t (rateFlag bits fs) ne 0 (s .lastnz / 2) 0 (x .0 .state) f (x .1) ≡ accepted y) h q) (pairs-even lookup frequencies (j .looked) (j .rows) (rateFlag bits fs) ne 0 (s .lastnz / 2) 0 .ends (x .0 .state) f (x .1) short (b .range)) .value;
+          count = p .known .count;
+          sized = p .known .each;
+          even = λ h. keeps-at (pairs-even lookup frequencies (j .looked) (j .rows) (rateFlag bits fs) ne 0 (s .lastnz / 2) 0) (x .0 .state) f (x .1) short (b .range) (both-here f (x .1)) (subst (λ t. readPairs lookup frequencies t (rateFlag bits fs) ne 0 (s .lastnz / 2) 0 (x .0 .state) f (x .1) ≡ accepted y) h q) .known .each;
           least = leb-true 0x10000 n (and-left (leb 0x10000 n) (leb n 0xFFFFFF) passes);
           most = leb-true n 0xFFFFFF (and-right (leb 0x10000 n) (leb n 0xFFFFFF) passes);
-          place = subst (Ends Any (λ r. Inside f (r .1))) q (pairs-stay lookup frequencies (eqb (s .lsb) 1) (rateFlag bits fs) ne 0 (s .lastnz / 2) 0 .inside (x .0 .state) f (x .1) there);
+          place = inside-on (p .moved) (inside-on (both-of-head (b .moved)) inside);
         }))
 
   side-ends : Ends Own (λ r. Ahead origin 74 (r .1)) (readAll fs ne f origin)

@@ -13,13 +13,14 @@ use Rattle.common.specs.Configuration.{frameLines}
 use Rattle.common.specs.Tables.{Tables, tablesPass}
 use Rattle.common.specs.declared.configuration.Configuration.{Configuration}
 use Rattle.common.proofs.Replies.{accepted-same, then-split, given-split}
+use Rattle.common.proofs.Configurations.{frame-ranges}
 use Rattle.buffer_reader.specs.Tail.{Agree}
 use Rattle.buffer_reader.specs.Steps.{Reading, found, next}
 use Rattle.buffer_reader.specs.declared.Cursor.{Cursor}
 use Rattle.buffer_reader.proofs.Roomy.{Ahead, Ends, ends-given, ends-so, ends-then}
 use Rattle.side_info.specs.Reader.{readAll, readSide}
 use Rattle.side_info.specs.declared.SideInfo.{SideInfo}
-use Rattle.side_info.proofs.Answers.{frame-ranges, read-on}
+use Rattle.side_info.proofs.Answers.{read-on}
 use Rattle.side_info.proofs.Start.{Own, side-roomy}
 use Rattle.side_info.proofs.Depends.{side-depends}
 use Rattle.range_decoder.specs.declared.DecoderState.{DecoderState}

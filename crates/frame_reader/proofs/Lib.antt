@@ -1,4 +1,3 @@
-pub mod Places
 pub mod Magnitudes
 pub mod Data
 pub mod Shown

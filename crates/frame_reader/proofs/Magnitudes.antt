@@ -2,25 +2,23 @@
 -- behind an escape is even before its lowest bit comes late, so it grows to no more than its bound. Assumes nothing.
 use Prim.Native.Nat.{ℕ, zero, suc, _+_, _-_, _*_, _/_, _%_, _^_, _≤_, _<_}
 use mathlib.Core.Path.{_≡_, refl, sym, ap, subst, _∙_}
-use mathlib.Core.Bool.{Bool, true, false, cond, _&&_}
+use mathlib.Core.Bool.{Bool, true, false, _&&_}
 use mathlib.Core.List.{List, [], _∷_, _++_}
 use native.Mathlib.Omega.{arith}
 use native.Mathlib.Nat.{pow-suc, mul-assoc}
-use borrow.Author.Tests.{ltb-true, ltb-false, eqb-true, eqb-false}
+use borrow.Author.Tests.{ltb-true, eqb-true, eqb-false}
 use lib.Dec.{ltb, eqb}
 use lib.ListN.{length, getD, replicate}
-use lib.IntN.{ℤ, pos, negℤ, natAbs}
-use Rattle.common.specs.Reply.{symbol, bit}
+use lib.IntN.{ℤ, pos, natAbs}
+use Rattle.common.specs.Reply.{Reply, symbol, bit}
 use Rattle.common.specs.Tables.{rowAt, lookupPasses, partPasses}
 use Rattle.common.proofs.Bools.{by-test}
-use Rattle.contexts.specs.Contexts.{rowOf, lookupStart, escapeSymbol, firstPart, secondPart, nextContext}
-use Rattle.spectral_data.specs.Spectral.{Pair, Levels, lowBits, readLevels, readSign, readPair, readPairs, linesOf, levelsOf}
-use Rattle.spectral_data.proofs.Codings.{Going, going-done, going-onward, going-if, going-symbol, going-bit}
-use Rattle.spectral_data.proofs.Bounds.{All, none, more, Sized, row-ok}
-use Rattle.spectral_data.proofs.Sizes.{signed-size}
+use Rattle.contexts.specs.Contexts.{rowOf, escapeSymbol, firstPart, secondPart}
+use Rattle.coding.proofs.Keeps.{BothMoved, both-byte, both-bit, Keeps, keeps-done, keeps-onward, keeps-if, met-symbol, met-bit}
+use Rattle.spectral_data.specs.Spectral.{Pair, Levels, lowBits, readLevels, readPair, readPairs, linesOf, levelsOf}
+use Rattle.spectral_data.proofs.Bounds.{All, none, more, Sized, Pairs, signs-keep, pairs-keep, row-ok}
 use Rattle.residual_data.specs.Residual.{lateLine, lateFrom}
 use Rattle.residual_data.proofs.Lates.{line-most}
-use Rattle.frame_reader.proofs.Places.{Any}
 
 -- a number of times a power of two from 2 on is even
 raised-even : (x n : ℕ) → 1 ≤ n → (x * 2 ^ n) % 2 ≡ 0
@@ -28,6 +26,10 @@ raised-even x zero h = absurd (omega arith)
 raised-even x (suc n) h =
     let e : x * 2 ^ suc n ≡ x * 2 ^ n * 2 = rw (pow-suc) (sym (mul-assoc x (2 ^ n) 2)) in
     omega arith
+
+-- whatever is refused, it is not spoken of
+abbrev pub Any : Reply → Type 0
+Any r = Unit {0}
 
 -- behind an escape both lines have no lowest bit yet
 record Even (l : Levels) : Type 0 where
@@ -43,13 +45,13 @@ pub record EvenPair (x : Pair) : Type 0 where
 abbrev Bits : ℕ → ℕ × ℕ → Type 0
 Bits level low = level ≡ 0 → (low .0 ≡ 0) × (low .1 ≡ 0)
 
-low-going : (p level : ℕ) → Going Any (Bits level) (lowBits true p level)
+low-going : (p level : ℕ) → Keeps BothMoved Any (Bits level) (lowBits true p level)
 low-going p level =
-    going-if Any (Bits level) (eqb level 0) _ _
-    (λ e. going-done Any (Bits level) (0, 0) (λ h. (refl, refl)))
-    (λ e. going-onward Any (λ a. a ≤ 1) (Bits level) _ _ (going-bit Any (bit p level) (λ tail. tt))
-    (λ a qa. going-onward Any (λ b. b ≤ 1) (Bits level) _ _ (going-bit Any (bit p level) (λ tail. tt))
-    (λ b qb. going-done Any (Bits level) (a, b) (λ h. absurd (eqb-false level 0 e h)))))
+    keeps-if Any (Bits level) (eqb level 0) _ _
+    (λ e. keeps-done Any (Bits level) (0, 0) (λ h. (refl, refl)))
+    (λ e. keeps-onward Any (λ a. a ≤ 1) (Bits level) _ _ (met-bit Any (bit p level) (λ tail. tt) both-bit)
+    (λ a qa. keeps-onward Any (λ b. b ≤ 1) (Bits level) _ _ (met-bit Any (bit p level) (λ tail. tt) both-bit)
+    (λ b qb. keeps-done Any (Bits level) (a, b) (λ h. absurd (eqb-false level 0 e h)))))
 
 -- one level more
 even-more : (level a x : ℕ) → (level ≡ 0 → x ≡ 0) → (level ≡ 0 → a ≡ 0) → (1 ≤ level → a % 2 ≡ 0) → (a + x * 2 ^ level) % 2 ≡ 0
@@ -60,31 +62,21 @@ even-more (suc n) a x absent start even =
     omega arith
 
 module _ (lookup frequencies : List ℕ) (looked : lookupPasses lookup ≡ true) (rows : partPasses 64 17 frequencies ≡ true) (p : ℕ) where
-  levels-going : (t left level a b : ℕ) → level + left ≡ 14 → (level ≡ 0 → (a ≡ 0) × (b ≡ 0)) → (1 ≤ level → (a % 2 ≡ 0) × (b % 2 ≡ 0)) → Going Any Even (readLevels lookup frequencies true p t left level a b)
+  levels-going : (t left level a b : ℕ) → level + left ≡ 14 → (level ≡ 0 → (a ≡ 0) × (b ≡ 0)) → (1 ≤ level → (a % 2 ≡ 0) × (b % 2 ≡ 0)) → Keeps BothMoved Any Even (readLevels lookup frequencies true p t left level a b)
   unfolding readLevels
   levels-going t zero level a b all start even =
-      going-done Any Even (record { escapes = level; last = escapeSymbol; lowFirst = a; lowSecond = b })
+      keeps-done Any Even (record { escapes = level; last = escapeSymbol; lowFirst = a; lowSecond = b })
       (record { behind = even; without = λ z. absurd (omega arith) })
   levels-going t (suc left) level a b all start even =
       let row = rowAt 17 (rowOf lookup t level) frequencies in
-      going-onward Any (λ k. k < length row) Even _ _ (going-symbol Any (symbol p level) (λ h. tt) (λ low limit. tt) row (row-ok lookup frequencies looked rows t level))
-      (λ k h. going-if Any Even (ltb k escapeSymbol) _ _
-      (λ e. going-done Any Even (record { escapes = level; last = k; lowFirst = a; lowSecond = b })
+      keeps-onward Any (λ k. k < length row) Even _ _ (met-symbol Any (symbol p level) (λ h. tt) (λ low limit. tt) both-byte row (row-ok lookup frequencies looked rows t level))
+      (λ k h. keeps-if Any Even (ltb k escapeSymbol) _ _
+      (λ e. keeps-done Any Even (record { escapes = level; last = k; lowFirst = a; lowSecond = b })
       (record { behind = even; without = λ z. (start z .0, start z .1, ltb-true k 16 e) }))
-      (λ e. going-onward Any (Bits level) Even _ _ (low-going p level)
+      (λ e. keeps-onward Any (Bits level) Even _ _ (low-going p level)
       (λ low q. levels-going t left (level + 1) (a + low .0 * 2 ^ level) (b + low .1 * 2 ^ level) (omega arith)
       (λ z. absurd (omega arith))
       (λ z. (even-more level a (low .0) (λ i. q i .0) (λ i. start i .0) (λ i. even i .0), even-more level b (low .1) (λ i. q i .1) (λ i. start i .1) (λ i. even i .1))))))
-
-  abbrev Of : ℕ → ℤ → Type 0
-  Of magnitude z = natAbs z ≡ magnitude
-
-  sign-going : (level magnitude : ℕ) → Going Any (Of magnitude) (readSign p level magnitude)
-  sign-going level magnitude =
-      going-if Any (Of magnitude) (ltb 0 magnitude) _ _
-      (λ e. going-onward Any (λ b. b ≤ 1) (Of magnitude) _ _ (going-bit Any (bit p level) (λ tail. tt))
-      (λ minus q. going-done Any (Of magnitude) (cond (eqb minus 1) (negℤ (pos magnitude)) (pos magnitude)) (signed-size (eqb minus 1) magnitude)))
-      (λ e. going-done Any (Of magnitude) (pos 0) (omega (arith, ltb-false 0 magnitude e)))
 
   whole-even : (z : ℤ) (low part n : ℕ) → natAbs z ≡ low + part * 2 ^ n → 1 ≤ n → low % 2 ≡ 0 → natAbs z % 2 ≡ 0
   whole-even z low part n e h even = let r = raised-even part n h in omega arith
@@ -92,24 +84,17 @@ module _ (lookup frequencies : List ℕ) (looked : lookupPasses lookup ≡ true)
   whole-low : (z : ℤ) (low part n : ℕ) → natAbs z ≡ low + part * 2 ^ n → n ≡ 0 → low ≡ 0 → part ≤ 3 → natAbs z ≤ 3
   whole-low z low part n e h none-low most = let one : natAbs z ≡ 0 + part * 2 ^ 0 = e ∙ rw (h, none-low) refl in omega arith
 
-  pair-going : (t : ℕ) → Going Any EvenPair (readPair lookup frequencies true p t)
+  pair-going : (t : ℕ) → Keeps BothMoved Any EvenPair (readPair lookup frequencies true p t)
   pair-going t =
-      going-onward Any Even EvenPair _ _ (levels-going t 14 0 0 0 refl (λ z. (refl, refl)) (λ z. absurd (omega arith)))
-      (λ l even. going-onward Any (Of (l .lowFirst + firstPart (l .last) * 2 ^ l .escapes)) EvenPair _ _ (sign-going (l .escapes) (l .lowFirst + firstPart (l .last) * 2 ^ l .escapes))
-      (λ first q. going-onward Any (Of (l .lowSecond + secondPart (l .last) * 2 ^ l .escapes)) EvenPair _ _ (sign-going (l .escapes) (l .lowSecond + secondPart (l .last) * 2 ^ l .escapes))
-      (λ second r. going-done Any EvenPair (record { escapes = l .escapes; last = l .last; first = first; second = second })
-      (record {
+      keeps-onward Any Even EvenPair _ _ (levels-going t 14 0 0 0 refl (λ z. (refl, refl)) (λ z. absurd (omega arith)))
+      (λ l even. signs-keep Any EvenPair p l (λ tail. tt)
+      (λ first second q r. record {
         behind = λ h. (whole-even first (l .lowFirst) (firstPart (l .last)) (l .escapes) q h (even .behind h .0), whole-even second (l .lowSecond) (secondPart (l .last)) (l .escapes) r h (even .behind h .1));
         without = λ h. let w = even .without h in (whole-low first (l .lowFirst) (firstPart (l .last)) (l .escapes) q h (w .0) (omega arith), whole-low second (l .lowSecond) (secondPart (l .last)) (l .escapes) r h (w .1) (omega (arith, w .2)));
-      }))))
+      }))
 
-pub pairs-even : (lookup frequencies : List ℕ) → lookupPasses lookup ≡ true → partPasses 64 17 frequencies ≡ true → (rate ne p n context : ℕ) → Going Any (All EvenPair) (readPairs lookup frequencies true rate ne p n context)
-unfolding readPairs
-pairs-even lookup frequencies looked rows rate ne p zero context = going-done Any (All EvenPair) [] none
-pairs-even lookup frequencies looked rows rate ne p (suc n) context =
-    going-onward Any EvenPair (All EvenPair) _ _ (pair-going lookup frequencies looked rows p (lookupStart context rate ne (2 * p)))
-    (λ x q. going-onward Any (All EvenPair) (All EvenPair) _ _ (pairs-even lookup frequencies looked rows rate ne (p + 1) n (nextContext context (firstPart (x .last)) (secondPart (x .last)) (x .escapes)))
-    (λ xs r. going-done Any (All EvenPair) (x ∷ xs) (more q r)))
+pub pairs-even : (lookup frequencies : List ℕ) → lookupPasses lookup ≡ true → partPasses 64 17 frequencies ≡ true → (rate ne p n context : ℕ) → Keeps BothMoved Any (Pairs EvenPair n) (readPairs lookup frequencies true rate ne p n context)
+pairs-even lookup frequencies looked rows = pairs-keep Any EvenPair lookup frequencies true (pair-going lookup frequencies looked rows)
 
 -- a line behind what comes late is larger by at most one
 module _ (f : List ℕ) (escaped : ℕ → Bool) where

@@ -16,6 +16,7 @@ use Rattle.common.specs.Configuration.{ne as lines·ne}
 use Rattle.common.specs.Tables.{Tables, tablesPass}
 use Rattle.common.specs.declared.configuration.Configuration.{Configuration}
 use Rattle.common.proofs.Replies.{no-refusal, accepted-same, then-split, given-split}
+use Rattle.common.proofs.Lasts.{log-range}
 use Rattle.buffer_reader.specs.declared.Cursor.{Cursor}
 use Rattle.buffer_reader.proofs.Roomy.{Ends, ends-given, ends-then, ends-refused}
 use Rattle.side_info.specs.Reader.{readAll}
@@ -26,7 +27,6 @@ use Rattle.spectral_data.specs.Spectral.{linesOf, levelsOf}
 use Rattle.spectral_data.proofs.Bounds.{All, Sized}
 use Rattle.spectral_data.proofs.Lines.{even-most, odd-most, odd-few}
 use Rattle.residual_data.specs.Residual.{usedBits, available, nonzero, residualList, escapedBy, lateFrom}
-use Rattle.residual_data.proofs.Rooms.{log-most}
 use Rattle.residual_data.proofs.Residuals.{residual-length}
 use Rattle.residual_data.proofs.Lates.{late-spends, late-room}
 use Rattle.frame_reader.specs.Frame.{Data, Frame, filledTo, readData, withResidual, withLate, finished, readFrame}
@@ -34,8 +34,7 @@ use Rattle.frame_reader.specs.Refusals.{InFrame}
 use Rattle.frame_reader.specs.Spare.{used, spare}
 use Rattle.frame_reader.specs.Stated.{Listed, Magnitudes, OutsideLeastBit}
 use Rattle.frame_reader.specs.Private.{readOn}
-use Rattle.frame_reader.proofs.Data.{Behind, ranges, own-in-frame, data-ends, data-behind}
-use Rattle.frame_reader.proofs.Places.{Inside}
+use Rattle.frame_reader.proofs.Data.{Inside, Behind, ranges, own-in-frame, data-ends, data-behind}
 use Rattle.frame_reader.proofs.Magnitudes.{EvenPair, late-each, bounds, even-late, odd-late, odd-few-late, filled-size}
 use Rattle.frame_reader.proofs.Whole.{judged}
 
@@ -142,7 +141,7 @@ module _ (k : Configuration) (t : Tables) (count : ℕ) (f : List ℕ) (fr : Fra
   P = frame-parts
 
   log : floorLog2 (P .read .range) ≤ 23
-  log = log-most (P .read .range) (P .least) (P .most)
+  log = log-range (P .read .range) (P .least) (omega (arith, P .most)) .1
 
   -- 2: used and spare are N exactly
   used-most : used fr ≤ 8 * length f
@@ -169,7 +168,7 @@ module _ (k : Configuration) (t : Tables) (count : ℕ) (f : List ℕ) (fr : Fra
       by false = record { short = P .short; filters = P .filters; three = P .place .three; head = P .place .head; least = P .least; most = P .most }
 
   pub tail-most : fr .cursor .tail ≤ 8 * length f
-  tail-most = omega (arith, used-most, log-most (fr .range) (frame-bounded .least) (frame-bounded .most))
+  tail-most = omega (arith, used-most, log-range (fr .range) (frame-bounded .least) (omega (arith, frame-bounded .most)))
 
   -- 3: in least-bit mode there is no residual list; outside it the list has as many bits as the smaller of the room and the nonzero
   -- lines, the room being what is spare behind the list and the list itself

@@ -9,7 +9,7 @@ use native.Mathlib.Numerals.{add-one}
 use lib.ListN.{length, drop, getD, set, length-append}
 use lib.Seq.{sets, set-out, drop-cons}
 use Rattle.buffer_writer.proofs.Copies.{sets-append}
-use Rattle.frame_text.specs.Private.{Laid, Left}
+use Rattle.frame_text.specs.Private.{Laid, Laying}
 
 module _ {b : List ℕ} {at : ℕ} where
   pub laid-none : Laid b at [] b at
@@ -29,22 +29,24 @@ module _ {b : List ℕ} {at : ℕ} where
         place = omega (arith, p .place, q .place, length-append xs ys);
       }
 
-module _ {b whole : List ℕ} {from : ℕ} where
-  pub left-start : Left b from whole b from whole
-  left-start = record { contents = refl; place = refl }
+-- a loop that lays a text part by part: its start, one turn, and its end, where nothing is left
+module _ {rest : ℕ → List ℕ} {parts : ℕ} {b : List ℕ} {from : ℕ} where
+  pub laying-start : Laying rest parts b from b from 0
+  laying-start = record { within = omega arith; size = refl; contents = refl; place = refl }
 
-  -- the first part of what is left is laid
-  pub left-turn : {rest xs ys c d : List ℕ} {at next : ℕ} → rest ≡ xs ++ ys → Laid c at xs d next → Left c at rest b from whole → Left d next ys b from whole
-  left-turn {rest} {xs} {ys} {c} {d} {at} e p l =
-      record {
-        contents = rw (p .contents, p .place, ← (sets-append c at xs ys), ← e) (l .contents);
-        place = omega (arith, p .place, l .place, length-append xs ys, ap length e);
-      }
+  module _ {c : List ℕ} {at i : ℕ} where
+    pub laying-turn : {xs d : List ℕ} {next : ℕ} → i < parts → rest i ≡ xs ++ rest (i + 1) → Laid c at xs d next → length d ≡ length c → Laying rest parts b from c at i → Laying rest parts b from d next (i + 1)
+    laying-turn {xs} h e p s l =
+        record {
+          within = omega arith;
+          size = s ∙ l .size;
+          contents = rw (p .contents, p .place, ← (sets-append c at xs (rest (i + 1))), ← e) (l .contents);
+          place = omega (arith, p .place, l .place, length-append xs (rest (i + 1)), ap length e);
+        }
 
-  -- nothing is left
-  pub left-end : {rest c : List ℕ} {at : ℕ} → rest ≡ [] → Left c at rest b from whole → Laid b from whole c at
-  left-end {rest} {c} {at} e l =
-      record { contents = ap (λ (r : List ℕ). sets c at r) (sym e) ∙ l .contents; place = omega (arith, l .place, ap length e) }
+    pub laying-end : rest i ≡ [] → Laying rest parts b from c at i → Laid b from (rest 0) c at
+    laying-end e l =
+        record { contents = ap (λ (r : List ℕ). sets c at r) (sym e) ∙ l .contents; place = omega (arith, l .place, ap length e) }
 
 -- the next of a list's elements, and that there is none
 pub next-one : (l : List ℕ) (i : ℕ) → i < length l → drop i l ≡ (getD l i 0 ∷ []) ++ drop (i + 1) l

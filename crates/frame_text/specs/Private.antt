@@ -18,10 +18,12 @@ pub record Laid (before : List ℕ) (at : ℕ) (text after : List ℕ) (behind :
   pub contents : after ≡ sets before at text
   pub place : behind ≡ at + length text
 
--- what is left to lay, over the buffer as it is now, makes what the whole asks
-pub record Left (now : List ℕ) (at : ℕ) (rest before : List ℕ) (from : ℕ) (whole : List ℕ) : Type 0 where
-  pub contents : sets now at rest ≡ sets before from whole
-  pub place : at + length rest ≡ from + length whole
+-- a text laid part by part, behind i of the parts: what is left of it, over the buffer as it is now, makes what the whole asks
+pub record Laying (rest : ℕ → List ℕ) (parts : ℕ) (before : List ℕ) (from : ℕ) (now : List ℕ) (at i : ℕ) : Type 0 where
+  pub within : i ≤ parts
+  pub size : length now ≡ length before
+  pub contents : sets now at (rest i) ≡ sets before from (rest 0)
+  pub place : at + length (rest i) ≡ from + length (rest 0)
 
 -- a refusal without its step
 unfoldable pub numbersText : Reply → List ℕ

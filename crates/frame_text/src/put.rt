@@ -3,7 +3,7 @@ ghost use mathlib.Core.List.{[], _∷_, _++_};
 ghost use Prim.Native.Nat.{_+_, _*_, _≤_};
 ghost use lib.ListN.{length};
 ghost use lib.IntN.{natAbs};
-ghost use Rattle.frame_text.specs.Text.{decimal, spaced as Text·spaced, signed as Text·signed};
+ghost use Rattle.frame_text.specs.Text.{lastDigit, decimal, spaced as Text·spaced, signed as Text·signed};
 ghost use Rattle.frame_text.specs.Private.{Laid};
 
 fn byte(out: &mut [u8], at: usize, b: u8) -> usize
@@ -32,6 +32,14 @@ pub(crate) fn word(out: &mut [u8], at: usize, letters: &[u8]) -> usize
     next
 }
 
+fn last_digit(out: &mut [u8], at: usize, n: usize) -> usize
+    requires { ⌜ at ≤ 100000 ⌝ }
+    ensures text { λ r. ⌜ Laid (now (out .entry)) at (lastDigit n) (now (out .exit)) r ⌝ }
+    ensures most { λ r. ⌜ r ≤ at + 1 ⌝ }
+{
+    byte(out, at, (48 + n % 10) as u8)
+}
+
 // The last digit, behind the others.
 pub(crate) fn number(out: &mut [u8], at: usize, n: usize) -> usize
     requires { ⌜ at ≤ 95000 ⌝ }
@@ -39,10 +47,10 @@ pub(crate) fn number(out: &mut [u8], at: usize, n: usize) -> usize
     ensures most { λ r. ⌜ r ≤ at + 20 ⌝ }
 {
     if n < 10 {
-        return byte(out, at, (48 + n % 10) as u8);
+        return last_digit(out, at, n);
     }
     let next = number(out, at, n / 10);
-    byte(out, next, (48 + n % 10) as u8)
+    last_digit(out, next, n)
 }
 
 pub(crate) fn named(out: &mut [u8], at: usize, name: &[u8], n: usize) -> usize

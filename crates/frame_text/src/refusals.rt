@@ -1,8 +1,9 @@
 // The line of a refused frame.
 ghost use mathlib.Core.Path.{_≡_};
-ghost use mathlib.Core.List.{_++_};
+ghost use mathlib.Core.List.{[], _∷_, _++_};
 ghost use Prim.Native.Nat.{_+_, _≤_};
 ghost use lib.ListN.{length};
+ghost use Rattle.common.specs.Reply.{reply};
 ghost use Rattle.coding.specs.Coding.{refusalOf, metOf};
 ghost use Rattle.frame_reader.specs.Returned.{replyOf};
 ghost use Rattle.frame_text.specs.Text.{decimal, named, spaced, replyText, refusedText};
@@ -26,6 +27,31 @@ fn numbers(out: &mut [u8], at: usize, number: usize, values: &[usize]) -> usize
 {
     let next = put::named(out, at, b" refused ", number);
     put::spaced(out, next, values)
+}
+
+// A refusal in no step, with no value or with one.
+fn bare(out: &mut [u8], at: usize, number: usize) -> usize
+    requires { ⌜ at ≤ 1000 ⌝ }
+    ensures text { λ r. ⌜ Laid (now (out .entry)) at (replyText (reply number [])) (now (out .exit)) r ⌝ }
+    ensures most { λ r. ⌜ r ≤ at + 160 ⌝ }
+{
+    put::named(out, at, b" refused ", number)
+}
+
+fn valued(out: &mut [u8], at: usize, number: usize, value: usize) -> usize
+    requires { ⌜ at ≤ 1000 ⌝ }
+    ensures text { λ r. ⌜ Laid (now (out .entry)) at (replyText (reply number (value ∷ []))) (now (out .exit)) r ⌝ }
+    ensures most { λ r. ⌜ r ≤ at + 160 ⌝ }
+{
+    numbers(out, at, number, &[value])
+}
+
+fn valued_u32(out: &mut [u8], at: usize, number: usize, value: u32) -> usize
+    requires { ⌜ at ≤ 1000 ⌝ }
+    ensures text { λ r. ⌜ Laid (now (out .entry)) at (replyText (reply number (value ∷ []))) (now (out .exit)) r ⌝ }
+    ensures most { λ r. ⌜ r ≤ at + 160 ⌝ }
+{
+    valued(out, at, number, value as usize)
 }
 
 fn refusal(out: &mut [u8], at: usize, e: Refusal) -> usize
@@ -101,28 +127,19 @@ fn error(out: &mut [u8], at: usize, e: FrameError) -> usize
     ensures most { λ r. ⌜ r ≤ at + 160 ⌝ }
 {
     match e {
-        FrameError::OutsideLimits => put::named(out, at, b" refused ", 1),
-        FrameError::WrongLength(len) => numbers(out, at, 2, &[len]),
-        FrameError::TablesFail => put::named(out, at, b" refused ", 3),
-        FrameError::WrongCount(count) => numbers(out, at, 4, &[count]),
-        FrameError::BandwidthIdxOutOfRange(bandwidth) => {
-            let n = wide(bandwidth);
-            numbers(out, at, 5, &[n])
-        }
+        FrameError::OutsideLimits => bare(out, at, 1),
+        FrameError::WrongLength(len) => valued(out, at, 2, len),
+        FrameError::TablesFail => bare(out, at, 3),
+        FrameError::WrongCount(count) => valued(out, at, 4, count),
+        FrameError::BandwidthIdxOutOfRange(bandwidth) => valued_u32(out, at, 5, bandwidth),
         FrameError::LastNonZeroTupleGreaterThanYLen(lastnz, ne) => {
             let n = wide(lastnz);
             numbers(out, at, 6, &[n, ne])
         }
-        FrameError::PlcTriggerSns1OutOfRange(j) => {
-            let n = wide(j);
-            numbers(out, at, 7, &[n])
-        }
-        FrameError::PlcTriggerSns2OutOfRange(j) => {
-            let n = wide(j);
-            numbers(out, at, 8, &[n])
-        }
+        FrameError::PlcTriggerSns1OutOfRange(j) => valued_u32(out, at, 7, j),
+        FrameError::PlcTriggerSns2OutOfRange(j) => valued_u32(out, at, 8, j),
         FrameError::Step(m) => met(out, at, m),
-        FrameError::NegativeResidualNumBits => put::named(out, at, b" refused ", 12),
+        FrameError::NegativeResidualNumBits => bare(out, at, 12),
     }
 }
 

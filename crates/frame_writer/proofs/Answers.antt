@@ -13,8 +13,8 @@ use Rattle.common.specs.Tables.{Tables, tablesPass}
 use Rattle.common.specs.declared.configuration.Configuration.{Configuration}
 use Rattle.common.proofs.Bools.{and-left, and-right}
 use Rattle.common.proofs.Sets.{lookup-passed, frequencies-passed, orders-passed, coefficients-passed}
+use Rattle.common.proofs.Configurations.{frame-ranges}
 use Rattle.side_info.specs.Record.{sidePasses}
-use Rattle.side_info.proofs.Answers.{frame-ranges}
 use Rattle.tns_data.specs.Sent.{tnsPasses}
 use Rattle.sending.specs.Sending.{laid}
 use Rattle.sending.specs.Private.{laidAll}

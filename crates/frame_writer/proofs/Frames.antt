@@ -8,6 +8,7 @@ use lib.Dec.{eqb}
 use lib.ListN.{length, length-append, length-take, take, drop-of-length-le, replicate, length-replicate, length-set}
 use lib.Seq.{sets, sets-eq, length-sets}
 use Rattle.common.proofs.Bools.{by-test}
+use Rattle.common.proofs.Lasts.{log-range}
 use Rattle.range_encoder.specs.Encoder.{startEncoder, shiftsOf}
 use Rattle.range_encoder.specs.Finish.{finishBytes, finishLast, finishBits, withOwn}
 use Rattle.range_encoder.specs.Interval.{Sent}
@@ -15,7 +16,6 @@ use Rattle.range_encoder.specs.Private.{Sound}
 use Rattle.range_encoder.specs.Runs.{AllPass, stateBehind}
 use Rattle.range_encoder.specs.Theory.{laidBehind}
 use Rattle.range_encoder.proofs.Carry.{sound-start, sound-behind}
-use Rattle.range_encoder.proofs.Endings.{log-range}
 use Rattle.range_encoder.proofs.Laid.{written-own}
 use Rattle.sending.specs.Sending.{Bit, putBits, laid}
 use Rattle.sending.proofs.Stands.{laid-puts}

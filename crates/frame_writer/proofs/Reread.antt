@@ -2,29 +2,27 @@
 -- magnitude behind its escapes is the last symbol's part, and in least-bit mode what came late is cleared again. Assumes nothing.
 use Prim.Native.Nat.{ℕ, zero, suc, _+_, _*_, _/_, _%_, _^_, _≤_, _<_}
 use mathlib.Core.Path.{_≡_, refl, sym, ap, subst, _∙_}
-use mathlib.Core.Bool.{Bool, true, false, cond}
+use mathlib.Core.Bool.{Bool, true, false}
 use mathlib.Core.List.{List, [], _∷_, _++_}
 use native.Mathlib.Omega.{arith}
 use native.Mathlib.Nat.{add-zero, zero-add}
 use borrow.Author.Tests.{ltb-true, ltb-false, lt-ltb}
 use lib.Dec.{ltb, eqb}
-use lib.IntN.{ℤ, pos, negsuc, negℤ, natAbs}
+use lib.IntN.{ℤ, pos, negsuc, natAbs}
 use lib.ListN.{length, getD, replicate}
 use lib.Pow.{high, shr-shr}
-use Rattle.common.specs.Reply.{bit}
 use Rattle.common.specs.Tables.{lookupPasses, partPasses}
 use Rattle.common.proofs.Bools.{by-test}
 use Rattle.buffer_reader.specs.Tail.{tailBit}
-use Rattle.contexts.specs.Contexts.{lookupStart, firstPart, secondPart, nextContext}
+use Rattle.contexts.specs.Contexts.{firstPart, secondPart}
 use Rattle.contexts.specs.Lines.{lineAt, magnitudeAt, escapesAt, evened, earlyLine}
 use Rattle.contexts.proofs.Evened.{evened-even}
-use Rattle.spectral_data.specs.Spectral.{Pair, Levels, readSign, readPairs, linesOf, levelsOf}
+use Rattle.coding.proofs.Keeps.{BothMoved, Keeps, keeps-onward}
+use Rattle.spectral_data.specs.Spectral.{Pair, Levels, readPairs, linesOf, levelsOf}
 use Rattle.spectral_data.specs.Sent.{pairAt, pairsOf}
 use Rattle.spectral_data.specs.Private.{Bounded, signsBy}
 use Rattle.spectral_data.proofs.Back.{earlyMagnitude, early-size}
-use Rattle.spectral_data.proofs.Bounds.{Meets, bitMissing, All, none, more, levels-going}
-use Rattle.spectral_data.proofs.Codings.{Going, going-done, going-onward, going-if, going-bit}
-use Rattle.spectral_data.proofs.Sizes.{signed-size}
+use Rattle.spectral_data.proofs.Bounds.{Meets, bitMissing, All, none, more, Pairs, signs-keep, pairs-keep, levels-going}
 use Rattle.residual_data.specs.Residual.{larger, lateLine, lateFrom}
 use Rattle.frame_reader.proofs.Magnitudes.{EvenPair}
 
@@ -34,42 +32,24 @@ pub record WholePair (x : Pair) : Type 0 where
   pub first : natAbs (x .first) / 2 ^ x .escapes ≡ firstPart (x .last)
   pub second : natAbs (x .second) / 2 ^ x .escapes ≡ secondPart (x .last)
 
-abbrev Of : ℕ → ℤ → Type 0
-Of magnitude z = natAbs z ≡ magnitude
-
-sign-going : (p level magnitude : ℕ) → level ≤ 14 → Going Meets (Of magnitude) (readSign p level magnitude)
-sign-going p level magnitude h =
-    going-if Meets (Of magnitude) (ltb 0 magnitude) _ _
-    (λ e. going-onward Meets (λ b. b ≤ 1) (Of magnitude) _ _ (going-bit Meets (bit p level) (λ tail. bitMissing p level tail h))
-    (λ minus q. going-done Meets (Of magnitude) (cond (eqb minus 1) (negℤ (pos magnitude)) (pos magnitude)) (signed-size (eqb minus 1) magnitude)))
-    (λ e. going-done Meets (Of magnitude) (pos 0) (omega (arith, ltb-false 0 magnitude e)))
-
 -- low bits below a power do not reach what stands above it
 above : (z : ℤ) (low part n : ℕ) → low < 2 ^ n → natAbs z ≡ low + part * 2 ^ n → natAbs z / 2 ^ n ≡ part
 above z low part n l e =
     let turned : natAbs z ≡ part * 2 ^ n + low = omega arith in
     ap (λ (m : ℕ). m / 2 ^ n) turned ∙ high part n l
 
-signs-whole : (p : ℕ) (l : Levels) → Bounded l → Going Meets WholePair (signsBy p l)
+signs-whole : (p : ℕ) (l : Levels) → Bounded l → Keeps BothMoved Meets WholePair (signsBy p l)
 signs-whole p l b =
-    let n = l .escapes in
-    going-onward Meets (Of (l .lowFirst + firstPart (l .last) * 2 ^ n)) WholePair _ _ (sign-going p n (l .lowFirst + firstPart (l .last) * 2 ^ n) (b .few))
-    (λ first q. going-onward Meets (Of (l .lowSecond + secondPart (l .last) * 2 ^ n)) WholePair _ _ (sign-going p n (l .lowSecond + secondPart (l .last) * 2 ^ n) (b .few))
-    (λ second r. going-done Meets WholePair (record { escapes = n; last = l .last; first = first; second = second })
-    (record {
-      first = above first (l .lowFirst) (firstPart (l .last)) n (b .firstLow) q;
-      second = above second (l .lowSecond) (secondPart (l .last)) n (b .secondLow) r;
-    })))
+    signs-keep Meets WholePair p l (λ tail. bitMissing p (l .escapes) tail (b .few))
+    (λ first second q r. record {
+      first = above first (l .lowFirst) (firstPart (l .last)) (l .escapes) (b .firstLow) q;
+      second = above second (l .lowSecond) (secondPart (l .last)) (l .escapes) (b .secondLow) r;
+    })
 
-module _ (lookup frequencies : List ℕ) (looked : lookupPasses lookup ≡ true) (rows : partPasses 64 17 frequencies ≡ true) (lsb : Bool) (rate ne : ℕ) where
-  pub pairs-whole : (p n context : ℕ) → Going Meets (All WholePair) (readPairs lookup frequencies lsb rate ne p n context)
-  unfolding readPairs
-  pairs-whole p zero context = going-done Meets (All WholePair) [] none
-  pairs-whole p (suc n) context =
-      going-onward Meets WholePair (All WholePair) _ _
-      (going-onward Meets Bounded WholePair _ _ (levels-going lookup frequencies looked rows lsb p (lookupStart context rate ne (2 * p)) 14 0 0 0 refl (omega arith) (omega arith)) (signs-whole p))
-      (λ x q. going-onward Meets (All WholePair) (All WholePair) _ _ (pairs-whole (p + 1) n (nextContext context (firstPart (x .last)) (secondPart (x .last)) (x .escapes)))
-      (λ xs r. going-done Meets (All WholePair) (x ∷ xs) (more q r)))
+pub pairs-whole : (lookup frequencies : List ℕ) → lookupPasses lookup ≡ true → partPasses 64 17 frequencies ≡ true → (lsb : Bool) (rate ne p n context : ℕ) → Keeps BothMoved Meets (Pairs WholePair n) (readPairs lookup frequencies lsb rate ne p n context)
+pairs-whole lookup frequencies looked rows lsb =
+    pairs-keep Meets WholePair lookup frequencies lsb
+    (λ p t. keeps-onward Meets Bounded WholePair _ _ (levels-going lookup frequencies looked rows lsb p t 14 0 0 0 refl (omega arith) (omega arith)) (signs-whole p))
 
 -- ---- a pair again
 

@@ -16,9 +16,10 @@ use Rattle.common.specs.Reply.{start, Answer, accepted, given, andThen, tablesF
 use Rattle.common.specs.Tables.{Tables, tablesPass}
 use Rattle.common.specs.declared.configuration.Configuration.{Configuration}
 use Rattle.common.proofs.Bools.{by-test, and-both, or-first-fails, and-first-fails, and-second-fails}
-use Rattle.common.proofs.Configurations.{frame-known}
+use Rattle.common.proofs.Configurations.{frame-known, frame-ranges}
 use Rattle.common.proofs.Replies.{accepted-same, given-split, then-split, within-split}
 use Rattle.common.proofs.Sets.{lookup-passed, frequencies-passed, orders-passed, coefficients-passed}
+use Rattle.common.proofs.Lasts.{log-range}
 use Rattle.contexts.specs.Contexts.{rateFlag}
 use Rattle.contexts.specs.Lines.{lineAt, magnitudeAt, escapesAt, earlyLine}
 use Rattle.buffer_reader.specs.Reads.{takeThree, threeAt}
@@ -28,7 +29,6 @@ use Rattle.side_info.specs.Layout.{sideFields}
 use Rattle.side_info.specs.Reader.{readAll}
 use Rattle.side_info.specs.Record.{sidePasses}
 use Rattle.side_info.specs.declared.SideInfo.{SideInfo}
-use Rattle.side_info.proofs.Answers.{frame-ranges}
 use Rattle.side_info.proofs.Image.{image-passes}
 use Rattle.side_info.proofs.Lengths.{if-there}
 use Rattle.side_info.proofs.SideLimits.{SideLimits, side-limits}
@@ -40,6 +40,7 @@ use Rattle.range_encoder.specs.Interval.{Sent, Interval, whole, behind}
 use Rattle.range_encoder.specs.Runs.{AllPass, stateBehind}
 use Rattle.range_encoder.proofs.Carry.{carry-exact}
 use Rattle.coding.specs.Coding.{Coded}
+use Rattle.coding.proofs.Keeps.{both-here, keeps-at}
 use Rattle.sending.specs.Sending.{laid}
 use Rattle.sending.proofs.Standing.{behind-append}
 use Rattle.sending.proofs.Tracing.{AtInterval}
@@ -52,12 +53,10 @@ use Rattle.spectral_data.specs.Private.{Modest}
 use Rattle.spectral_data.specs.Sent.{sentPairs, pairsBits, pairsOf}
 use Rattle.spectral_data.specs.Spectral.{Pair, readPairs, linesOf, levelsOf}
 use Rattle.spectral_data.proofs.Bounds.{All}
-use Rattle.spectral_data.proofs.Codings.{going-at}
 use Rattle.spectral_data.proofs.Lines.{lines-length}
 use Rattle.spectral_data.proofs.Retrace.{pairs-retrace}
 use Rattle.residual_data.specs.Residual.{usedBits, available, nonzero, escapedBy, lateFrom}
 use Rattle.residual_data.proofs.Lates.{late-length}
-use Rattle.residual_data.proofs.Rooms.{log-most}
 use Rattle.frame_reader.specs.Frame.{Data, Frame, startIn, filledTo, readData, withResidual, withLate, finished, readFrame}
 use Rattle.frame_reader.specs.Private.{readOn}
 use Rattle.frame_reader.specs.Stated.{Listed, Magnitudes}
@@ -152,7 +151,7 @@ module _ (k : Configuration) (t : Tables) (f : List ℕ) (n : ℕ) (lines : fram
     pub pairs-kept : All WholePair (pr .0 .value)
     pairs-kept =
         let ok = tns-behind (t .orders) (t .coefficients) weighting (orders-passed t tables) (coefficients-passed t tables) weighting-low (s .«tns_first») (s .«tns_second») (y .0) f (y .1) short range-there tnsRead .range in
-        going-at (pairs-whole (t .lookup) (t .frequencies) (lookup-passed t tables) (frequencies-passed t tables) (eqb (s .lsb) 1) (rateFlag bits (k .«fs_ind»)) n 0 (s .lastnz / 2) 0) (tn .0 .state) f (tn .1) short ok pairsRead .value
+        keeps-at (pairs-whole (t .lookup) (t .frequencies) (lookup-passed t tables) (frequencies-passed t tables) (eqb (s .lsb) 1) (rateFlag bits (k .«fs_ind»)) n 0 (s .lastnz / 2) 0) (tn .0 .state) f (tn .1) short ok (both-here f (tn .1)) pairsRead .known .each
 
     module _ (ls : List ℤ) (rs : List ℕ) (modest : Modest ls) (again : pr .0 .value ≡ pairsOf (eqb (s .lsb) 1) ls 0 (s .lastnz / 2)) where
       abbrev filters : List Sent
@@ -206,7 +205,7 @@ module _ (k : Configuration) (t : Tables) (f : List ℕ) (n : ℕ) (lines : fram
 
       -- 16, where 12 was passed: both leave the same room
       room-taken : 0x10000 ≤ pr .0 .state .range → pr .0 .state .range ≤ 0xFFFFFF → usedBits (pr .1) (pr .0 .state .range) ≤ bits → length (earlyBits (k .«fs_ind») n (content ls rs)) + reserved symbols + (bits - usedBits (pr .1) (pr .0 .state .range)) ≡ bits
-      room-taken least most fits = omega (arith, reserved-is, early-is, log-most (pr .0 .state .range) least most, fits)
+      room-taken least most fits = omega (arith, reserved-is, early-is, log-range (pr .0 .state .range) least (omega arith), fits)
 
 -- ---- the lines as they are returned
 

@@ -1,3 +1,4 @@
 pub mod Answers
+pub mod Contents
 pub mod Frames
 pub mod Places

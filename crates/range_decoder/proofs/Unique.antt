@@ -1,17 +1,14 @@
 -- What an answer of the decoder says decides the answer: each refusal is found again by its number. Assumes nothing.
-use mathlib.Core.Path.{_≡_, refl}
+use mathlib.Core.Path.{_≡_, refl, ap}
 use mathlib.Core.Bool.{cond}
 use lib.Dec.{eqb}
 use lib.ListN.{getD}
-use Rattle.common.specs.Reply.{Reply, Answer, accepted, refused}
+use Rattle.common.specs.Reply.{Reply}
 use Rattle.common.proofs.Unique.{from-back}
 use Rattle.buffer_reader.specs.declared.BufferError.the-variants.{WrongLength, WidthNotListed, NoTailRoom, PastEnd}
-use Rattle.buffer_reader.specs.declared.Cursor.{Cursor}
-use Rattle.buffer_reader.proofs.Unique.{errorBack}
-use Prim.Native.Nat.{ℕ}
-use Rattle.range_decoder.specs.Decoder.{Decoded, replyOf, startedOf, symbolOf}
+use Rattle.buffer_reader.proofs.Unique.{errorBack, answer-unique}
+use Rattle.range_decoder.specs.Decoder.{replyOf, startedOf, symbolOf}
 use Rattle.range_decoder.specs.Lent.{symbolAtOf}
-use Rattle.range_decoder.specs.declared.DecoderState.{DecoderState}
 use Rattle.range_decoder.specs.declared.CodecError.{CodecError}
 use Rattle.range_decoder.specs.declared.CodecError.the-variants.{OutsideLimits, RowFails, LowBeyondLimit, Buffer}
 use Rattle.range_decoder.specs.declared.Started.{Started}
@@ -40,35 +37,11 @@ codec-back (Buffer (PastEnd h)) = refl
 pub codec-unique : (a b : CodecError) → replyOf a ≡ replyOf b → a ≡ b
 codec-unique = from-back replyOf codecBack codec-back
 
-abbrev startedBack : Answer (DecoderState × Cursor) → Started
-startedBack (accepted v) = At (v .0) (v .1)
-startedBack (refused r) = StartRefused (codecBack r)
-
-started-back : (a : Started) → startedBack (startedOf a) ≡ a
-started-back (At s c) = refl
-started-back (StartRefused e) = rw (codec-back e) refl
-
 pub started-unique : (a b : Started) → startedOf a ≡ startedOf b → a ≡ b
-started-unique = from-back startedOf startedBack started-back
-
-abbrev symbolBack : Answer (Decoded × Cursor) → SymbolRead
-symbolBack (accepted v) = Symbol (v .0 .symbol) (v .0 .state) (v .1)
-symbolBack (refused r) = SymbolRefused (codecBack r)
-
-symbol-back : (a : SymbolRead) → symbolBack (symbolOf a) ≡ a
-symbol-back (Symbol k s c) = refl
-symbol-back (SymbolRefused e) = rw (codec-back e) refl
+started-unique = answer-unique startedOf (λ v. At (v .0) (v .1)) StartRefused codecBack (elim [ At s c ↦ refl | StartRefused e ↦ ap StartRefused (codec-back e) ])
 
 pub symbol-unique : (a b : SymbolRead) → symbolOf a ≡ symbolOf b → a ≡ b
-symbol-unique = from-back symbolOf symbolBack symbol-back
-
-abbrev symbolAtBack : Answer (ℕ × Cursor) → SymbolAt
-symbolAtBack (accepted v) = LentSymbol (v .0) (v .1)
-symbolAtBack (refused r) = LentRefused (codecBack r)
-
-symbol-at-back : (a : SymbolAt) → symbolAtBack (symbolAtOf a) ≡ a
-symbol-at-back (LentSymbol k c) = refl
-symbol-at-back (LentRefused e) = rw (codec-back e) refl
+symbol-unique = answer-unique symbolOf (λ v. Symbol (v .0 .symbol) (v .0 .state) (v .1)) SymbolRefused codecBack (elim [ Symbol k s c ↦ refl | SymbolRefused e ↦ ap SymbolRefused (codec-back e) ])
 
 pub symbol-at-unique : (a b : SymbolAt) → symbolAtOf a ≡ symbolAtOf b → a ≡ b
-symbol-at-unique = from-back symbolAtOf symbolAtBack symbol-at-back
+symbol-at-unique = answer-unique symbolAtOf (λ v. LentSymbol (v .0) (v .1)) LentRefused codecBack (elim [ LentSymbol k c ↦ refl | LentRefused e ↦ ap LentRefused (codec-back e) ])

@@ -4,14 +4,14 @@ use Prim.Native.Nat.{ℕ, suc, _+_, _-_, _*_, _/_, _%_, _^_, _≤_, _<_}
 use mathlib.Core.Path.{_≡_, refl, sym, ap, _∙_}
 use mathlib.Core.Bool.{Bool, true, false, cond}
 use native.Mathlib.Omega.{arith}
-use native.Mathlib.Nat.{zero-mul, suc-mul, mul-comm, lt-of-not-le, not-le-of-lt, lt-of-le-of-lt, lt-of-mul-lt-mul-right, mul-le-mul-right, mod-lt, mod-eq-of-lt, div-add-mod', div-eq-of-lt, div-mul-le-self, div-le-self, two-pow-succ, add-sub-of-le}
+use native.Mathlib.Nat.{zero-mul, suc-mul, mul-comm, lt-of-mul-lt-mul-right, mul-le-mul-right, mod-lt, mod-eq-of-lt, div-add-mod', div-eq-of-lt, div-mul-le-self, div-le-self, two-pow-succ, add-sub-of-le}
 use borrow.Author.Tests.{lt-ltb, le-ltb, ltb-true, ltb-false, eqb-true, eqb-false, leb-false}
 use lib.Dec.{ltb, leb, eqb}
 use lib.Arith.{digits-div}
 use lib.Pow.{pow-pos, pow-mono, pow-add, shr-shr}
 use Rattle.common.proofs.Bools.{by-test}
 use Rattle.common.specs.Last.{floorLog2}
-use Rattle.common.proofs.Lasts.{Log, log-law}
+use Rattle.common.proofs.Lasts.{log-law, log-range}
 use Rattle.range_encoder.specs.Finish.{Ending, valOf, highIn, endingAt, ending, ended}
 use Rattle.range_encoder.specs.Private.{Fits, Carries, Sound, maskOf, closing}
 use Rattle.range_encoder.specs.declared.EncoderState.{EncoderState}
@@ -31,18 +31,6 @@ pub record Ended (s : EncoderState) (e : Ending) : Type 0 where
   pub step : e .value ≡ times * 2 ^ (24 - e .bits)
   pub value-fits : e .value < 0x1000000
   pub carry-most : e .carry ≤ 1
-
--- a smaller power of two has a smaller exponent
-power-below : (i j : ℕ) → 2 ^ i < 2 ^ j → i < j
-power-below i j l = lt-of-not-le (λ h. not-le-of-lt l (pow-mono h))
-
--- between two symbols the floor of the range's logarithm is 16 to 23
-pub log-range : (range : ℕ) → 0x10000 ≤ range → range < 0x1000000 → (16 ≤ floorLog2 range) × (floorLog2 range ≤ 23)
-log-range range least fits =
-    let log : Log range (floorLog2 range) = log-law range (omega arith) (omega arith) in
-    let low : 16 < suc (floorLog2 range) = power-below 16 (suc (floorLog2 range)) (lt-of-le-of-lt least (log .high)) in
-    let high : floorLog2 range < 24 = power-below (floorLog2 range) 24 (lt-of-le-of-lt (log .low) fits) in
-    (omega arith, omega arith)
 
 -- so many steps of the last of b bits are 24 bits
 step-whole : (b : ℕ) → b ≤ 24 → 2 ^ b * 2 ^ (24 - b) ≡ 0x1000000

@@ -12,6 +12,7 @@ use lib.Pow.{pow-pos, pow-add}
 use lib.ListN.{length, length-append, length-replicate}
 use Rattle.common.specs.Last.{floorLog2}
 use Rattle.common.proofs.Bools.{by-test}
+use Rattle.common.proofs.Lasts.{log-range}
 use Rattle.range_encoder.specs.Encoder.{startEncoder, shiftsOf, settles, shifted, shiftBytes, reservedOf, withRange}
 use Rattle.range_encoder.specs.Finish.{Ending, ending, ended, pushed, pushedBytes, lastBits, heldBytes, lastByte, finishState, finishBytes, finishLast, finishBits}
 use Rattle.range_encoder.specs.Interval.{Sent, Interval, whole, behind}
@@ -23,7 +24,7 @@ use Rattle.range_encoder.specs.declared.EncoderState.{EncoderState}
 use Rattle.range_encoder.proofs.Numbers.{from-append, from-one}
 use Rattle.range_encoder.proofs.States.{fits-shifted, shifts-shifted, out-shifted}
 use Rattle.range_encoder.proofs.Carry.{end-held, not-settled, digits-waiting, carries-shifted, holds-shifted, sound-start, sound-behind, carry-exact}
-use Rattle.range_encoder.proofs.Endings.{Exact, log-range, ending-ended, ending-exact, ending-fits, ending-carries}
+use Rattle.range_encoder.proofs.Endings.{Exact, ending-ended, ending-exact, ending-fits, ending-carries}
 
 -- a state that is sent: so many bits of its low are its own, and its range is what they leave open
 record Closes (t : EncoderState) (bits : ℕ) : Type 0 where

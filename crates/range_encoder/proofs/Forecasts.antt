@@ -2,9 +2,9 @@
 use Prim.Native.Nat.{_+_, _≤_, _<_}
 use mathlib.Core.Path.{_≡_}
 use native.Mathlib.Omega.{arith}
+use Rattle.common.proofs.Lasts.{log-range}
 use Rattle.range_encoder.specs.Encoder.{reservedOf, forecastOf}
 use Rattle.range_encoder.specs.declared.EncoderState.{EncoderState}
-use Rattle.range_encoder.proofs.Endings.{log-range}
 
 -- with a byte in the cache the forecast is E
 pub forecast-held : (s : EncoderState) → s .held ≡ 1 → forecastOf s ≡ reservedOf s

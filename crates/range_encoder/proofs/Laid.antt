@@ -11,6 +11,7 @@ use lib.Seq.{sets, length-sets, set-comm, getD-set-same, getD-set-other}
 use lib.Arith.{digits-mod}
 use lib.Pow.{pow-pos}
 use Rattle.common.specs.Reply.{accepted}
+use Rattle.common.proofs.Lasts.{log-range}
 use Rattle.buffer_reader.specs.Steps.{next}
 use Rattle.buffer_reader.specs.Tail.{tailByte, tailBit, Bytes}
 use Rattle.buffer_writer.specs.Writes.{withBit, withTop, putBit, putField}
@@ -28,7 +29,6 @@ use Rattle.range_encoder.specs.declared.EncoderState.{EncoderState}
 use Rattle.range_encoder.proofs.Symbols.{symbol-shares}
 use Rattle.range_encoder.proofs.States.{shifts-turn-most, out-encoded}
 use Rattle.range_encoder.proofs.Carry.{carry-exact, sound-encoded, sound-start, sound-behind}
-use Rattle.range_encoder.proofs.Endings.{log-range}
 use Rattle.range_encoder.proofs.Finishes.{finish-reserved, last-bits}
 use Rattle.range_encoder.proofs.Sends.{own-append}
 use Rattle.range_encoder.proofs.Continues.{laid-continues}

@@ -7,6 +7,7 @@ use native.Mathlib.Omega.{arith}
 use lib.ListN.{length}
 use Rattle.common.specs.Last.{floorLog2}
 use Rattle.common.specs.Reply.{accepted}
+use Rattle.common.proofs.Lasts.{log-range}
 use Rattle.buffer_reader.specs.Steps.{next}
 use Rattle.buffer_reader.specs.declared.Cursor.{Cursor}
 use Rattle.buffer_reader.specs.Tail.{Bytes}
@@ -17,7 +18,6 @@ use Rattle.range_encoder.specs.Runs.{AllPass, stateBehind, ownBytes, own
 use Rattle.range_encoder.specs.Digits.{headNumber}
 use Rattle.range_encoder.specs.Theory.{Inside, cursorAt, decodedAs, Begins}
 use Rattle.range_encoder.proofs.Carry.{carry-exact, sound-start, sound-behind}
-use Rattle.range_encoder.proofs.Endings.{log-range}
 use Rattle.range_encoder.proofs.Finishes.{finish-sends, last-bits}
 use Rattle.range_encoder.proofs.Continues.{continues-number}
 use Rattle.range_encoder.proofs.Decodes.{decodes}

@@ -6,8 +6,8 @@ use mathlib.Core.Bool.{Bool, true, false, cond}
 use mathlib.Core.List.{List, _∷_, _++_, map, append-nil}
 use native.Mathlib.Omega.{arith}
 use native.Mathlib.Nat.{add-zero, mod-eq-of-lt}
-use borrow.Author.Tests.{eqb-true, eqb-false, leb-true, leb-false}
-use lib.Dec.{eqb, ltb, leb}
+use borrow.Author.Tests.{eqb-true, eqb-false}
+use lib.Dec.{eqb, ltb}
 use lib.ListN.{length, take, drop, replicate, getD}
 use lib.Seq.{take-nil, take-all, getD-drop, drop-drop}
 use lib.IntN.{ℤ, pos, negsuc, negℤ, natAbs}
@@ -19,6 +19,7 @@ use Rattle.sending.specs.Sending.{Bit}
 use Rattle.residual_data.specs.Residual.{bitsFrom, nonzero, residualList, Late, larger, lateLine, lateFrom, escapedBy}
 use Rattle.residual_data.specs.Sent.{lateAt, latePairs, earlyLines, cutLine, backLines}
 use Rattle.residual_data.specs.Private.{held}
+use Rattle.residual_data.proofs.Cuts.{by-room}
 use Rattle.residual_data.proofs.Lates.{line-low, line-more, line-short, line-signed, larger-size}
 use Rattle.residual_data.proofs.Residuals.{residual-length}
 use Rattle.residual_data.proofs.Puts.{late-alone, late-signed}
@@ -191,17 +192,11 @@ module _ (f : List ℕ) (lines : List ℤ) (escaped : ℕ → Bool) where
   late-again others p (suc n) tail room same came =
       let here = same p (omega arith) (omega arith) in
       let later : (q : ℕ) → p + 1 ≤ q → q < p + 1 + n → escaped q ≡ ltb 0 (escapesAt lines q) = λ q l m. same q (omega arith) (omega arith) in
-      let i = length (lateAt lines (2 * p)) in
-      let j = length (lateAt lines (2 * p + 1)) in
-      by-test (ltb 0 (escapesAt lines p))
-      (λ e. by-test (leb i room)
-      (λ l. let h = leb-true i room l in
-      by-test (leb j (room - i))
-      (λ m. let o = leb-true j (room - i) m in
-      again-later others p n tail room here came e h o (late-again others (p + 1) n (tail + i + j) (room - i - j) later (behind-later others p n tail room here came e h o)))
-      (λ m. again-second others p n tail room here came e h (leb-false j (room - i) m)))
-      (λ l. again-first others p n tail room here came e (leb-false i room l)))
+      by-room lines p n room
       (λ e. comes-kept f lines escaped p n tail room here e (late-again others (p + 1) n tail room later (behind-kept others p n tail room here came e)))
+      (λ e l. again-first others p n tail room here came e l)
+      (λ e l m. again-second others p n tail room here came e l m)
+      (λ e l m. again-later others p n tail room here came e l m (late-again others (p + 1) n _ _ later (behind-later others p n tail room here came e l m)))
 
 -- in the standard reading, by the levels that the lines have
 pub standard-again : (f : List ℕ) (lines others : List ℤ) (levels : List ℕ) (n reading tail room : ℕ) → eqb reading 0 ≡ false → ((q : ℕ) → q < n → getD levels q 0 ≡ escapesAt lines q) →

@@ -6,12 +6,11 @@ use mathlib.Core.Bool.{Bool, true, false}
 use mathlib.Core.List.{List, [], _∷_, _++_, map}
 use native.Mathlib.Omega.{arith}
 use native.Mathlib.Nat.{zero-add, add-zero}
-use borrow.Author.Tests.{lt-ltb, le-ltb, leb-true, leb-false}
-use lib.Dec.{eqb, ltb, leb}
+use borrow.Author.Tests.{lt-ltb, le-ltb}
+use lib.Dec.{eqb, ltb}
 use lib.ListN.{length, take, replicate, getD, length-append, length-take}
 use lib.Seq.{take-nil, take-append-le, length-take-le}
 use lib.IntN.{ℤ}
-use Rattle.common.proofs.Bools.{by-test}
 use Rattle.buffer_reader.specs.Tail.{tailBit}
 use Rattle.contexts.specs.Lines.{lineAt, escapesAt, evened}
 use Rattle.sending.specs.Sending.{Bit, Stands}
@@ -22,7 +21,7 @@ use Rattle.residual_data.specs.Private.{held}
 use Rattle.residual_data.proofs.Lates.{late-full}
 use Rattle.residual_data.proofs.Puts.{residual-values, residual-count}
 use Rattle.residual_data.proofs.Evened.{line-whole, line-cut}
-use Rattle.residual_data.proofs.Cuts.{take-whole, pair-more, pair-kept, cut-first, cut-second, cut-later, cut-kept, cut-least, cut-none, back-early, back-whole}
+use Rattle.residual_data.proofs.Cuts.{take-whole, pair-more, pair-kept, cut-first, cut-second, cut-later, cut-kept, cut-least, cut-none, by-room, back-early, back-whole}
 
 -- bits that stand are read, and so are zeros
 stands-read : (f : List ℕ) (i : ℕ) (bits : List Bit) → Stands f i bits → bitsFrom f i (length bits) ≡ map (λ (b : Bit). b .value) bits
@@ -209,15 +208,11 @@ module _ (f : List ℕ) (lines : List ℤ) (escaped : ℕ → Bool) where
   late-back p (suc n) tail room same stands =
       let here = same p (omega arith) (omega arith) in
       let others : (q : ℕ) → p + 1 ≤ q → q < p + 1 + n → escaped q ≡ ltb 0 (escapesAt lines q) = λ q l m. same q (omega arith) (omega arith) in
-      let i = length (lateAt lines (2 * p)) in
-      let j = length (lateAt lines (2 * p + 1)) in
-      by-test (ltb 0 (escapesAt lines p))
-      (λ e. by-test (leb i room)
-      (λ l. by-test (leb j (room - i))
-      (λ m. when-later p n tail room here e (leb-true i room l) (leb-true j (room - i) m) (late-back (p + 1) n (tail + i + j) (room - i - j) others) stands)
-      (λ m. when-second p n tail room here e (leb-true i room l) (leb-false j (room - i) m) stands))
-      (λ l. when-first p n tail room here e (leb-false i room l) stands))
+      by-room lines p n room
       (λ e. when-kept p n tail room here e (late-back (p + 1) n tail room others) stands)
+      (λ e l. when-first p n tail room here e l stands)
+      (λ e l m. when-second p n tail room here e l m stands)
+      (λ e l m. when-later p n tail room here e l m (late-back (p + 1) n _ _ others) stands)
 
 -- the levels as they were written make the reader of the standard find the pairs that are escaped
 module _ (f : List ℕ) (lines : List ℤ) (levels : List ℕ) (n : ℕ) (written : (q : ℕ) → q < n → getD levels q 0 ≡ escapesAt lines q) where

@@ -71,6 +71,15 @@ module _ (lines : List ℤ) (p n room : ℕ) where
     pub cut-kept : cutLine lines p (suc n) room ≡ cutLine lines (p + 1) n room
     cut-kept = rw (pair-kept, end) refl
 
+  -- a pair by its cases: not escaped, or room for the late bits of neither line, of the first alone, or of both
+  pub by-room : {C : Type 0} → (ltb 0 (escapesAt lines p) ≡ false → C) → (ltb 0 (escapesAt lines p) ≡ true → room < length a → C) → (ltb 0 (escapesAt lines p) ≡ true → length a ≤ room → room - length a < length b → C) → (ltb 0 (escapesAt lines p) ≡ true → length a ≤ room → length b ≤ room - length a → C) → C
+  by-room kept first second both =
+      by-test (ltb 0 (escapesAt lines p))
+      (λ e. by-test (leb (length a) room)
+      (λ l. by-test (leb (length b) (room - length a)) (λ m. both e (leb-true (length a) room l) (leb-true (length b) (room - length a) m)) (λ m. second e (leb-true (length a) room l) (leb-false (length b) (room - length a) m)))
+      (λ l. first e (leb-false (length a) room l)))
+      kept
+
 -- it is one of the lines from the first on
 pub cut-least : (lines : List ℤ) (p n room : ℕ) → 2 * p ≤ cutLine lines p n room
 unfolding latePairs

@@ -52,6 +52,6 @@ module _ (f : List ℕ) where
       (λ e. rw (same p, e, late-alike one other same (p + 1) rest) refl)
       (λ e. rw (same p, e, late-alike one other same (p + 1) rest) refl)
 
--- the zero flag: the same in both readings where the noise field is 7, and never set by the standard alone
+-- the zero flag: the same in both readings where the noise field is 7
 pub flag-alike : (reading lastnz gain noise : ℕ) (first second : ℤ) → noise ≡ 7 → zeroFlag reading lastnz gain noise first second ≡ zeroFlag 0 lastnz gain noise first second
 flag-alike reading lastnz gain noise first second e = rw (or-second (eqb reading 0) (eq-eqb noise 7 e)) refl

@@ -11,12 +11,12 @@ use Rattle.common.specs.Reply.{Answer, accepted}
 use Rattle.common.specs.Tables.{Tables}
 use Rattle.common.specs.declared.configuration.Configuration.{Configuration}
 use Rattle.common.proofs.Bools.{and-left, and-right}
+use Rattle.common.proofs.Configurations.{frame-ranges}
 use Rattle.buffer_reader.specs.declared.Cursor.{Cursor}
 use Rattle.contexts.specs.Contexts.{rateFlag}
 use Rattle.side_info.specs.Layout.{sideFields, sideLength}
 use Rattle.side_info.specs.Reader.{readAll}
 use Rattle.side_info.specs.Record.{sidePasses}
-use Rattle.side_info.proofs.Answers.{frame-ranges}
 use Rattle.side_info.proofs.RoundTrip.{fields-read, values-fit}
 use Rattle.side_info.proofs.SideLimits.{side-limits}
 use Rattle.range_encoder.specs.Interval.{Sent, Interval, whole, behind}

@@ -26,6 +26,7 @@ use Rattle.sending.proofs.Stands.{stands-behind, StandFor, stand-for-append}
 use Rattle.frame_writer.specs.Frame.{fieldBits, fieldsBits}
 use Rattle.frame_writer.specs.Whose.{Whose, head, tail, Place, ownBit, inTail, placeOf}
 use Rattle.frame_writer.proofs.Owners.{behind-tail}
+use Rattle.frame_writer.proofs.Placed.{placed-for}
 
 -- ---- bytes by their bits
 
@@ -98,16 +99,6 @@ module _ (spared : Whose → Bool) (symbols : List Sent) (bits : List Bit) (g : 
       rw (byte, power) at (sym there ∙ is ∙ ap (λ (p : Place). p .bit) place))
 
 -- ---- the tail
-
--- at places where the bits of some owners are as they were put, these stand
-placed-for : (spared : Whose → Bool) (f : List ℕ) (i : ℕ) (bits : List Bit) (beyond : ℕ → Place) →
-    ((j : ℕ) → j < length bits → spared (inTail bits j (beyond j) .whose) ≡ true → tailBit f (i + j) ≡ inTail bits j (beyond j) .bit) → StandFor (λ o. spared (tail o)) f i bits
-unfolding StandFor inTail
-placed-for spared f i [] beyond same = tt
-placed-for spared f i (b ∷ bs) beyond same = (
-  rw (add-zero i) at (same 0 (omega arith)),
-  placed-for spared f (i + 1) bs (λ j. beyond (suc j)) (λ j l. let e : i + 1 + j ≡ i + suc j = omega arith in rw e (same (suc j) (omega arith))),
-)
 
 pub held-tail : (spared : Whose → Bool) (symbols : List Sent) (bits : List Bit) (g : List ℕ) → Held spared symbols bits g → length bits ≤ 8 * length g → StandFor (λ o. spared (tail o)) g 0 bits
 unfolding inTail

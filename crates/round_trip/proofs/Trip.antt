@@ -15,14 +15,14 @@ use Rattle.common.specs.Reply.{accepted}
 use Rattle.common.specs.Tables.{Tables}
 use Rattle.common.specs.declared.configuration.Configuration.{Configuration}
 use Rattle.common.proofs.Bools.{and-left}
-use Rattle.common.proofs.Configurations.{frame-passed}
+use Rattle.common.proofs.Configurations.{frame-passed, frame-ranges}
+use Rattle.common.proofs.Lasts.{log-range}
 use Rattle.buffer_reader.specs.Tail.{tailBit, Bytes}
 use Rattle.buffer_reader.specs.declared.Cursor.{Cursor}
 use Rattle.contexts.specs.Lines.{magnitudeAt, escapesAt}
 use Rattle.side_info.specs.Layout.{sideFields}
 use Rattle.side_info.specs.Record.{sidePasses}
 use Rattle.side_info.specs.declared.SideInfo.{SideInfo}
-use Rattle.side_info.proofs.Answers.{frame-ranges}
 use Rattle.side_info.proofs.Lengths.{length-range}
 use Rattle.side_info.proofs.SideLimits.{SideLimits, side-limits}
 use Rattle.range_encoder.specs.Encoder.{startEncoder}
@@ -31,7 +31,6 @@ use Rattle.range_encoder.specs.Runs.{AllPass, stateBehind, bytesBehind, ownByte
 use Rattle.range_encoder.specs.Theory.{Holds, Begins}
 use Rattle.range_encoder.proofs.Carry.{carry-exact, sound-start, sound-behind}
 use Rattle.range_encoder.proofs.Continues.{laid-continues}
-use Rattle.range_encoder.proofs.Endings.{log-range}
 use Rattle.range_encoder.proofs.Laid.{own-room}
 use Rattle.range_encoder.proofs.OwnBits.{begins-inside}
 use Rattle.sending.specs.Sending.{Bit, Stands, putBits, laid}

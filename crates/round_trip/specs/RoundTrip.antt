@@ -105,19 +105,23 @@ pub record Altered (spared : Whose → Bool) (k : Configuration) (t : Tables) (w
   pub size : length other ≡ length frame
   pub same : (i : ℕ) → i < 8 * length frame → spared (whoseAt k t w (length frame) i) ≡ true → tailBit other i ≡ tailBit frame i
 
--- the head's own bits and the side information's
-abbrev pub ofSide : Owner → Bool
-ofSide side = true
-ofSide (low k level) = false
-ofSide (sign k) = false
-ofSide (residual k) = false
-ofSide (lowest k) = false
-ofSide (lateSign k) = false
+-- the head's own bits and the side information's, and the low bits of lines if these are spared too: not signs, what comes late, and
+-- what is nobody's
+abbrev pub ofOwner : Bool → Owner → Bool
+ofOwner lows side = true
+ofOwner lows (low k level) = lows
+ofOwner lows (sign k) = false
+ofOwner lows (residual k) = false
+ofOwner lows (lowest k) = false
+ofOwner lows (lateSign k) = false
+
+abbrev pub sparing : Bool → Whose → Bool
+sparing lows (head j) = true
+sparing lows (tail owner) = ofOwner lows owner
+sparing lows unused = false
 
 abbrev pub headAndSide : Whose → Bool
-headAndSide (head j) = true
-headAndSide (tail owner) = ofSide owner
-headAndSide unused = false
+headAndSide = sparing false
 
 -- side record, TNS orders and indices, each pair's escapes and last symbol, and the coder behind them, as they were written
 pub record AsWritten (k : Configuration) (t : Tables) (w : Content) (bytes : ℕ) (x : Frame) : Type 0 where
@@ -157,18 +161,8 @@ DamageIsKnown reading =
 -- ---- 3. Signs and residual
 
 -- all but signs, what comes late, and what is nobody's
-abbrev pub ofLow : Owner → Bool
-ofLow side = true
-ofLow (low k level) = true
-ofLow (sign k) = false
-ofLow (residual k) = false
-ofLow (lowest k) = false
-ofLow (lateSign k) = false
-
 abbrev pub lowsToo : Whose → Bool
-lowsToo (head j) = true
-lowsToo (tail owner) = ofLow owner
-lowsToo unused = false
+lowsToo = sparing true
 
 -- the frame is accepted; before what comes late every magnitude is as written, and the tail stands where it stood
 pub record Harmless (k : Configuration) (t : Tables) (w : Content) (other : List ℕ) (answer : Answer Frame) : Type 0 where

@@ -97,6 +97,12 @@ stand-for-append spared f i (x ∷ xs) ys h =
     let e : i + 1 + length xs ≡ i + length (x ∷ xs) = omega arith in
     ((h .0, rest .0), rw (← e) (rest .1))
 
+-- where every owner is one of them, all stand
+pub all-stand : (f : List ℕ) (i : ℕ) (bits : List Bit) → StandFor (λ o. true) f i bits → Stands f i bits
+unfolding StandFor Stands
+all-stand f i [] h = tt
+all-stand f i (b ∷ bs) h = (h .0 refl, all-stand f (i + 1) bs (h .1))
+
 -- lists of bits below 2
 pub bits-append : (xs ys : List Bit) → AllBits xs → AllBits ys → AllBits (xs ++ ys)
 bits-append [] ys h k = k

@@ -11,13 +11,14 @@ use lib.ListN.{length, getD}
 use Rattle.common.specs.Reply.{Step, accepted, wrongLength, headPastEnd, noTailRoom, lowBeyondLimit}
 use Rattle.common.specs.Tables.{rowPasses}
 use Rattle.common.proofs.Replies.{accepted-same, then-split, given-split, within-split}
+use Rattle.buffer_reader.specs.Reader.{takeFlag}
 use Rattle.buffer_reader.specs.Reads.{takeByte, takeBit, bitBeyond}
 use Rattle.buffer_reader.specs.Steps.{next, found, asNumber}
 use Rattle.buffer_reader.specs.declared.Cursor.{Cursor}
 use Rattle.range_decoder.specs.Decoder.{unitOf, owner, narrowed, appendByte, renormalised, Decoded, symbolStep}
 use Rattle.range_decoder.specs.declared.DecoderState.{DecoderState}
 use Rattle.range_encoder.specs.Interval.{Sent, Interval, part, widened, behind}
-use Rattle.coding.specs.Coding.{Coded, done, met, symbolBy, bitNext, tailBitBy}
+use Rattle.coding.specs.Coding.{Coded, done, met, symbolBy, tailBitBy}
 use Rattle.coding.proofs.Keeps.{symbol-low}
 use Rattle.sending.specs.Sending.{sent}
 use Rattle.sending.proofs.Standing.{behind-append}
@@ -57,7 +58,7 @@ traced-as b t = record { place = t .place; tail = t .tail }
 pub traced-bit : (step : Step) (s : DecoderState) (f : List ℕ) (c : Cursor) (r : Coded ℕ × Cursor) → met step tailBitBy s f c ≡ accepted r → Traced s c [] 1 r
 unfolding behind
 traced-bit step s f c r e =
-    let p = then-split (bitNext f c) (λ q. done (q .0) s f (q .1)) (within-split step _ e) in
+    let p = then-split (takeFlag f c) (λ q. done (q .0) s f (q .1)) (within-split step _ e) in
     let q = then-split (takeBit f c) asNumber (p .1) in
     let a = given-split (ltb 65535 (length f)) (wrongLength (length f)) _ (q .1) in
     let b = given-split (bitBeyond (length f) c) (noTailRoom 1 (c .tail)) _ (a .1) in

@@ -1,14 +1,14 @@
 -- Which check of the side information's reader and writer holds, and what the frame then holds.
 -- Assumes nothing.
-use Prim.Native.Nat.{ℕ, _*_, _≤_}
+use Prim.Native.Nat.{ℕ, _*_}
 use mathlib.Core.Path.{_≡_, refl}
 use mathlib.Core.Bool.{true, false}
 use mathlib.Core.List.{List}
 use lib.ListN.{length}
 use Rattle.common.specs.Reply.{Reply, accepted, refused, fieldOutside}
-use Rattle.common.specs.Configuration.{ne, frameLines}
+use Rattle.common.specs.Configuration.{frameLines}
 use Rattle.common.specs.declared.configuration.Configuration.{Configuration}
-use Rattle.common.proofs.Configurations.{fs-limit, ne-range, length-limits, frame-known}
+use Rattle.common.proofs.Configurations.{frame-known}
 use Rattle.buffer_reader.specs.Steps.{next}
 use Rattle.buffer_reader.specs.declared.Cursor.{Cursor}
 use Rattle.side_info.specs.Reader.{readBandwidth, readLastnz, readAll, readSide}
@@ -18,14 +18,6 @@ use Rattle.side_info.specs.Writer.{writeSide, sideWritten}
 use Rattle.side_info.specs.Private.{fromLevel, writeFields, fieldsWritten}
 use Rattle.side_info.specs.declared.SideInfo.{SideInfo}
 use Rattle.side_info.specs.declared.writer.Field.{Field}
-
--- what a call that got past refusals 1 and 2 knows
-pub frame-ranges : (k : Configuration) (bytes : ℕ) {n : ℕ} → frameLines k bytes ≡ accepted n → (k .«fs_ind» ≤ 4) × (60 ≤ n) × (n ≤ 400) × (20 ≤ bytes) × (bytes ≤ 400)
-frame-ranges k bytes e =
-    let known = frame-known k bytes e in
-    let lines = ne-range k (known .0) in
-    let size = length-limits bytes (known .1) in
-    (fs-limit k (known .0), rw (known .2) (lines .0), rw (known .2) (lines .1), size .0, size .1)
 
 -- the reader's chain is made of the pieces that the code's functions read
 pub chain-made : (fs ne : ℕ) → readAll fs ne ≡ next (readBandwidth fs) (λ bandwidth. next (readLastnz ne) (λ lastnz. fromLevel bandwidth lastnz))

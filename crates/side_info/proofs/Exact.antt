@@ -10,7 +10,7 @@ use lib.ListN.{length}
 use Rattle.common.specs.Reply.{Answer, accepted, given, unlessRefused, fieldOutside}
 use Rattle.common.specs.Configuration.{ne, frameLines}
 use Rattle.common.specs.declared.configuration.Configuration.{Configuration}
-use Rattle.common.proofs.Configurations.{frame-known}
+use Rattle.common.proofs.Configurations.{frame-known, frame-ranges}
 use Rattle.common.proofs.Replies.{accepted-same, then-split, given-split}
 use Rattle.buffer_reader.specs.declared.Cursor.{Cursor}
 use Rattle.side_info.specs.Reader.{readSide}
@@ -18,7 +18,7 @@ use Rattle.side_info.specs.Record.{sidePasses}
 use Rattle.side_info.specs.Layout.{sideFields, sideLength, roomFor, putFields}
 use Rattle.side_info.specs.Writer.{writeSide, sideWritten}
 use Rattle.side_info.specs.declared.SideInfo.{SideInfo}
-use Rattle.side_info.proofs.Answers.{frame-ranges, write-on, fields-put}
+use Rattle.side_info.proofs.Answers.{write-on, fields-put}
 use Rattle.side_info.proofs.Layouts.{room-end, room-there}
 use Rattle.side_info.proofs.Lengths.{length-range}
 use Rattle.side_info.proofs.RoundTrip.{read-back}

@@ -2,10 +2,10 @@
 -- shapes, and both are below their limits: what the writer lays down is what the reader finds. Assumes nothing.
 use Prim.Native.Nat.{ℕ, zero, suc, _+_, _-_, _*_, _/_, _%_, _^_, _≤_, _<_}
 use mathlib.Core.Path.{_≡_, refl, subst}
-use mathlib.Core.Bool.{true, false, _&&_}
+use mathlib.Core.Bool.{Bool, true, false, _&&_}
 use native.Mathlib.Omega.{arith}
 use borrow.Author.Tests.{lt-ltb, le-ltb, leb-true, le-leb, ne-eqb}
-use lib.Dec.{leb, eqb}
+use lib.Dec.{eqb}
 use Rattle.common.proofs.Bools.{and-left, and-right, and-both}
 use Rattle.side_info.specs.Joint.{snsOf, partOf, jointOf}
 use Rattle.side_info.specs.Reader.{partBits, jointBits}
@@ -24,34 +24,31 @@ pub record SnsLimits (s : Sns) : Type 0 where
   pub signB : s .«ls_indb» ≤ ifThere (eqb (shapeOf s) 0) 1
   pub indexB : s .«idx_b» ≤ ifThere (eqb (shapeOf s) 0) 5
 
+-- of two tests joined, each
+pub parts : (a b : Bool) → (a && b) ≡ true → (a ≡ true) × (b ≡ true)
+parts a b e = (and-left a b e, and-right a b e)
+
+-- from the test to the limits
 pub sns-limits : (s : Sns) → snsPasses s ≡ true → SnsLimits s
 sns-limits s e =
-    let a = leb (s .lf) 31 in
-    let b = leb (s .hf) 31 in
-    let c = leb (s .msb) 1 in
-    let d = leb (s .«submode_lsb») 1 in
-    let g = leb (s .gain) (gainMost (shapeOf s)) in
-    let h = leb (s .«ls_inda») 1 in
-    let i = leb (s .«idx_a») (idxMost (shapeOf s)) in
-    let j = leb (s .«ls_indb») (ifThere (eqb (shapeOf s) 0) 1) in
-    let k = leb (s .«idx_b») (ifThere (eqb (shapeOf s) 0) 5) in
-    let e8 = and-left (a && b && c && d && g && h && i && j) k e in
-    let e7 = and-left (a && b && c && d && g && h && i) j e8 in
-    let e6 = and-left (a && b && c && d && g && h) i e7 in
-    let e5 = and-left (a && b && c && d && g) h e6 in
-    let e4 = and-left (a && b && c && d) g e5 in
-    let e3 = and-left (a && b && c) d e4 in
-    let e2 = and-left (a && b) c e3 in
+    let e8 = parts _ _ e in
+    let e7 = parts _ _ (e8 .0) in
+    let e6 = parts _ _ (e7 .0) in
+    let e5 = parts _ _ (e6 .0) in
+    let e4 = parts _ _ (e5 .0) in
+    let e3 = parts _ _ (e4 .0) in
+    let e2 = parts _ _ (e3 .0) in
+    let e1 = parts _ _ (e2 .0) in
     record {
-      low = leb-true (s .lf) 31 (and-left a b e2);
-      high = leb-true (s .hf) 31 (and-right a b e2);
-      stage = leb-true (s .msb) 1 (and-right (a && b) c e3);
-      mode = leb-true (s .«submode_lsb») 1 (and-right (a && b && c) d e4);
-      gains = leb-true (s .gain) (gainMost (shapeOf s)) (and-right (a && b && c && d) g e5);
-      signA = leb-true (s .«ls_inda») 1 (and-right (a && b && c && d && g) h e6);
-      indexA = leb-true (s .«idx_a») (idxMost (shapeOf s)) (and-right (a && b && c && d && g && h) i e7);
-      signB = leb-true (s .«ls_indb») (ifThere (eqb (shapeOf s) 0) 1) (and-right (a && b && c && d && g && h && i) j e8);
-      indexB = leb-true (s .«idx_b») (ifThere (eqb (shapeOf s) 0) 5) (and-right (a && b && c && d && g && h && i && j) k e);
+      low = leb-true _ _ (e1 .0);
+      high = leb-true _ _ (e1 .1);
+      stage = leb-true _ _ (e2 .1);
+      mode = leb-true _ _ (e3 .1);
+      gains = leb-true _ _ (e4 .1);
+      signA = leb-true _ _ (e5 .1);
+      indexA = leb-true _ _ (e6 .1);
+      signB = leb-true _ _ (e7 .1);
+      indexB = leb-true _ _ (e8 .1);
     }
 
 -- and back, nine tests at once

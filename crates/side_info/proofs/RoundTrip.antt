@@ -14,6 +14,7 @@ use Rattle.common.specs.Reply.{Answer, accepted, side, within, andThen}
 use Rattle.common.specs.Configuration.{frameLines}
 use Rattle.common.specs.declared.configuration.Configuration.{Configuration}
 use Rattle.common.proofs.Bools.{or-first-fails}
+use Rattle.common.proofs.Configurations.{frame-ranges}
 use Rattle.buffer_reader.specs.Tail.{tailBit, field}
 use Rattle.buffer_reader.specs.Reads.{listed, bitBeyond, bytesWanted}
 use Rattle.buffer_reader.specs.Steps.{Reading, next, ifPresent, asNumber}
@@ -29,7 +30,7 @@ use Rattle.side_info.specs.Layout.{width, value, lengthOf, sideFields, s
 use Rattle.side_info.specs.declared.SideInfo.{SideInfo}
 use Rattle.side_info.specs.declared.writer.Field.{Field}
 use Rattle.side_info.proofs.Widths.{lastnz-five, lastnz-six, lastnz-seven, lastnz-eight, lastnz-range, part-listed}
-use Rattle.side_info.proofs.Answers.{frame-ranges, read-on}
+use Rattle.side_info.proofs.Answers.{read-on}
 use Rattle.side_info.proofs.Room.{fieldAt}
 use Rattle.side_info.proofs.Layouts.{fieldsAt, cutAll, put-fields-length, put-fields-same}
 use Rattle.side_info.proofs.Joints.{sns-limits, joint-back, joint-low-25, joint-low-24, part-fits, joint-fits}

@@ -2,12 +2,13 @@
 -- of them says one limit. Assumes nothing.
 use Prim.Native.Nat.{ℕ, _%_, _≤_}
 use mathlib.Core.Path.{_≡_}
-use mathlib.Core.Bool.{Bool, true, _&&_}
+use mathlib.Core.Bool.{true}
 use borrow.Author.Tests.{leb-true, eqb-true, le-leb, eq-eqb}
 use lib.Dec.{leb, eqb}
-use Rattle.common.proofs.Bools.{and-left, and-right, and-both}
+use Rattle.common.proofs.Bools.{and-both}
 use Rattle.side_info.specs.Record.{ifThere, snsPasses, sidePasses}
 use Rattle.side_info.specs.declared.SideInfo.{SideInfo}
+use Rattle.side_info.proofs.Joints.{parts}
 
 -- the limits of a record that passes
 pub record SideLimits (fs lines : ℕ) (s : SideInfo) : Type 0 where
@@ -24,10 +25,6 @@ pub record SideLimits (fs lines : ℕ) (s : SideInfo) : Type 0 where
   pub on-off : s .active ≤ ifThere (eqb (s .pitch) 1) 1
   pub place : s .index ≤ ifThere (eqb (s .pitch) 1) 511
   pub noises : s .noise ≤ 7
-
--- of two tests joined, each
-parts : (a b : Bool) → (a && b) ≡ true → (a ≡ true) × (b ≡ true)
-parts a b e = (and-left a b e, and-right a b e)
 
 -- from the test to the limits
 pub side-limits : (fs lines : ℕ) (s : SideInfo) → sidePasses fs lines s ≡ true → SideLimits fs lines s

@@ -11,14 +11,13 @@ use lib.ListN.{length}
 use Rattle.common.specs.Reply.{Reply, accepted, refused, nowhere, side, bandwidthTooLarge, lastnzTooLarge, jointTooLarge25, jointTooLarge24}
 use Rattle.common.specs.Configuration.{configurationPasses, lengthPasses, frameLines}
 use Rattle.common.specs.declared.configuration.Configuration.{Configuration}
-use Rattle.common.proofs.Configurations.{frame-passed}
+use Rattle.common.proofs.Configurations.{frame-passed, frame-ranges}
 use Rattle.buffer_reader.specs.Reads.{listed}
 use Rattle.buffer_reader.specs.Steps.{found, ifPresent}
 use Rattle.buffer_reader.specs.declared.Cursor.{Cursor}
 use Rattle.buffer_reader.proofs.Rooms.{listed-low}
 use Rattle.buffer_reader.proofs.Roomy.{Room, Ahead, Ends, ends-refused, ends-accepted, ends-then, Roomy, roomy-more, roomy-found, roomy-next, roomy-refusing, roomy-if, roomy-present, roomy-field, roomy-flag}
 use Rattle.side_info.specs.Reader.{sideField, sideFlag, bandwidthBits, partBits, jointBits, readBandwidth, lastnzBits, readLastnz, readJoint, readAll, readSide}
-use Rattle.side_info.proofs.Answers.{frame-ranges}
 use Rattle.side_info.proofs.Widths.{lastnz-range, part-listed, joint-listed}
 use Rattle.side_info.proofs.Lengths.{bandwidth-most, shape-sum}
 

@@ -3,8 +3,11 @@
 use Prim.Native.Nat.{ℕ, zero, suc, _≤_, _<_}
 use mathlib.Core.Path.{_≡_, refl}
 use mathlib.Core.Bool.{false}
+use mathlib.Core.List.{[], _∷_}
 use native.Mathlib.Omega.{arith}
+use Rattle.common.specs.Tables.{allAtMost}
 use Rattle.common.proofs.Bools.{not-passed}
+use Rattle.common.proofs.Rows.{at-most}
 use Rattle.side_info.specs.Record.{gainMost, idxMost, snsPasses}
 use Rattle.side_info.specs.declared.Sns.{Sns}
 use Rattle.side_info.proofs.Joints.{sns-limits}
@@ -17,11 +20,8 @@ gain-middle (suc (suc (suc zero))) p q h = absurd (q refl)
 gain-middle (suc (suc (suc (suc n)))) p q h = absurd (omega arith)
 
 pub gain-limit : (shape : ℕ) → gainMost shape ≤ 7
-gain-limit zero = omega arith
-gain-limit (suc zero) = omega arith
-gain-limit (suc (suc zero)) = omega arith
-gain-limit (suc (suc (suc zero))) = omega arith
-gain-limit (suc (suc (suc (suc n)))) = omega arith
+unfolding allAtMost
+gain-limit shape = at-most 7 (1 ∷ 3 ∷ 3 ∷ 7 ∷ []) shape refl
 
 pub idx-low : (shape : ℕ) → shape ≤ 1 → idxMost shape ≡ 2390003
 idx-low zero h = refl
@@ -36,11 +36,8 @@ idx-last (suc (suc (suc zero))) l q h = refl
 idx-last (suc (suc (suc (suc n)))) l q h = absurd (omega arith)
 
 pub idx-limit : (shape : ℕ) → idxMost shape ≤ 15158271
-idx-limit zero = omega arith
-idx-limit (suc zero) = omega arith
-idx-limit (suc (suc zero)) = omega arith
-idx-limit (suc (suc (suc zero))) = omega arith
-idx-limit (suc (suc (suc (suc n)))) = omega arith
+unfolding allAtMost
+idx-limit shape = at-most 15158271 (2390003 ∷ 2390003 ∷ 15158271 ∷ 774911 ∷ []) shape refl
 
 -- a flag above 1 fails the second stage
 pub msb-fails : (s : Sns) → 1 < s .msb → snsPasses s ≡ false

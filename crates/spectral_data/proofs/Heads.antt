@@ -10,12 +10,13 @@ use lib.Dec.{ltb}
 use lib.ListN.{length, getD}
 use Rattle.common.specs.Reply.{Step, accepted, wrongLength, noTailRoom}
 use Rattle.common.proofs.Replies.{accepted-same, then-split, given-split, within-split}
+use Rattle.buffer_reader.specs.Reader.{takeFlag}
 use Rattle.buffer_reader.specs.Reads.{takeBit, bitBeyond}
 use Rattle.buffer_reader.specs.Steps.{asNumber}
 use Rattle.buffer_reader.specs.declared.Cursor.{Cursor}
 use Rattle.range_decoder.specs.declared.DecoderState.{DecoderState}
 use Rattle.sending.proofs.Tracing.{traced-symbol}
-use Rattle.coding.specs.Coding.{Coded, Coding, done, onward, met, symbolBy, bitNext, tailBitBy}
+use Rattle.coding.specs.Coding.{Coded, Coding, done, onward, met, symbolBy, tailBitBy}
 
 -- two frames agree on the head's places from one to another
 abbrev pub AgreeHead : List ℕ → List ℕ → ℕ → ℕ → Type 0
@@ -63,7 +64,7 @@ still-if true k l p q = p
 still-if false k l p q = q
 
 -- what a bit leaves
-bit-split : (f : List ℕ) (c : Cursor) (r : ℕ × Cursor) → bitNext f c ≡ accepted r → r .1 .head ≡ c .head
+bit-split : (f : List ℕ) (c : Cursor) (r : ℕ × Cursor) → takeFlag f c ≡ accepted r → r .1 .head ≡ c .head
 bit-split f c r e =
     let p = then-split (takeBit f c) asNumber e in
     let a = given-split (ltb 65535 (length f)) (wrongLength (length f)) _ (p .1) in
@@ -73,9 +74,9 @@ bit-split f c r e =
 pub still-bit : (step : Step) → Still (met step tailBitBy)
 still-bit step =
     record {
-      state = λ s f c x e. let p = then-split (bitNext f c) (λ r. done (r .0) s f (r .1)) (within-split step _ e) in
+      state = λ s f c x e. let p = then-split (takeFlag f c) (λ r. done (r .0) s f (r .1)) (within-split step _ e) in
           sym (ap (λ (q : Coded ℕ × Cursor). q .0 .state) (accepted-same (p .2)));
-      head = λ s f c x e. let p = then-split (bitNext f c) (λ r. done (r .0) s f (r .1)) (within-split step _ e) in
+      head = λ s f c x e. let p = then-split (takeFlag f c) (λ r. done (r .0) s f (r .1)) (within-split step _ e) in
           sym (ap (λ (q : Coded ℕ × Cursor). q .1 .head) (accepted-same (p .2))) ∙ bit-split f c (p .0) (p .1);
     }
 

@@ -1,4 +1,3 @@
-pub mod Codings
 pub mod Turns
 pub mod Sizes
 pub mod Bounds

@@ -16,21 +16,21 @@ use Rattle.contexts.specs.Lines.{escapesAt}
 use Rattle.range_decoder.specs.Decoder.{rangePasses}
 use Rattle.range_decoder.specs.declared.DecoderState.{DecoderState}
 use Rattle.coding.specs.Coding.{Coded}
+use Rattle.coding.proofs.Keeps.{BothMoved, both-here, Behind, keeps-at, keeps-refused}
 use Rattle.spectral_data.specs.Sent.{pairsOf}
 use Rattle.spectral_data.specs.Spectral.{Pair, readPairs, linesOf, levelsOf}
-use Rattle.spectral_data.proofs.Codings.{Behind, going-at, going-refused}
 use Rattle.spectral_data.proofs.Bounds.{Meets, Sized, All, none, more, Pairs, pairs-going}
 use Rattle.spectral_data.proofs.Sizes.{context-low}
 
 module _ (lookup frequencies : List ℕ) (looked : lookupPasses lookup ≡ true) (rows : partPasses 64 17 frequencies ≡ true)
     (lsb : Bool) (rate ne p n context : ℕ) (s : DecoderState) (f : List ℕ) (c : Cursor) (short : length f ≤ 65535) (within : rangePasses (s .range) ≡ true) where
-  -- accepted: the range passes again, neither cursor goes back, and there are n pairs, each within its bounds
-  pub pairs-behind : (x : Coded (List Pair) × Cursor) → readPairs lookup frequencies lsb rate ne p n context s f c ≡ accepted x → Behind (Pairs n) c x
-  pairs-behind x e = going-at (pairs-going lookup frequencies looked rows lsb rate ne p n context) s f c short within e
+  -- accepted: the range passes again, neither cursor goes back or out of the frame, and there are n pairs, each within its bounds
+  pub pairs-behind : (x : Coded (List Pair) × Cursor) → readPairs lookup frequencies lsb rate ne p n context s f c ≡ accepted x → Behind BothMoved (Pairs Sized n) f c x
+  pairs-behind x e = keeps-at (pairs-going lookup frequencies looked rows lsb rate ne p n context) s f c short within (both-here f c) e
 
   -- refused: 9 at a bit of level 14 at most, or 10 or 11 at a symbol of level 13 at most
   pub pairs-refusal : (r : Reply) → readPairs lookup frequencies lsb rate ne p n context s f c ≡ refused r → Meets r
-  pairs-refusal r e = going-refused (pairs-going lookup frequencies looked rows lsb rate ne p n context) s f c short within e
+  pairs-refusal r e = keeps-refused (pairs-going lookup frequencies looked rows lsb rate ne p n context) s f c short within (both-here f c) e
 
 -- two lines and one level for each pair
 pub lines-length : (xs : List Pair) → length (linesOf xs) ≡ 2 * length xs

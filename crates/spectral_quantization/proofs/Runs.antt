@@ -2,7 +2,7 @@
 -- Assumes nothing.
 use Prim.Native.Nat.{ℕ, suc, _+_, _*_, _≤_, max}
 use mathlib.Core.Path.{_≡_, refl}
-use mathlib.Core.Bool.{true, false}
+use mathlib.Core.Bool.{Bool, true, false, cond}
 use mathlib.Core.List.{List}
 use native.Mathlib.Omega.{arith}
 use native.Mathlib.Numerals.{add-one}
@@ -15,51 +15,44 @@ use Rattle.spectral_quantization.specs.declared.estimate.Running.{Runnin
 use Rattle.spectral_quantization.specs.Estimate.{wholeBits, sumBelow, upToLast, pairCost, leastBits, first, second, pairsOf, contextAt, kept, consumption}
 use Rattle.spectral_quantization.specs.Private.{keeps, runningAt, onPair, Bounded}
 
--- what the parts of the step found: where the lookup begins, the pair's cost, its least bits and the context behind it
+-- what the parts of the step found: the pair's cost, its least bits and the context behind it
 pub record Found (lookup bits : List ℕ) (f : Frame) (p a b : ℕ) (s : Running) (cost least context : ℕ) : Type 0 where
+  pub small : a ≤ 32768
+  pub small₂ : b ≤ 32768
+  pub come : Bounded p s
   pub cost-is : cost ≡ pairCost lookup bits (f .mode) (lookupStart (s .context) (f .rate) (f .ne) (2 * p)) a b
   pub cost-most : cost ≤ 1044465
   pub least-is : least ≡ leastBits (f .mode) a b
   pub least-most : least ≤ 4
   pub context-is : context ≡ contextBehind (s .context) a b
 
-module _ (lookup bits : List ℕ) (f : Frame) (p a b : ℕ) (s : Running) (cost least context : ℕ) (g : Found lookup bits f p a b s cost least context) where
-  -- the lines up to the pair are kept, or what was kept before stays
-  abbrev pub moved : Running
-  moved = record { sum = s .sum + cost; least = s .least + least; place = 2 * p + 2; kept = s .sum + cost; context = context }
+-- the lines up to the pair are kept, or what was kept before stays
+abbrev behind : ℕ → Running → ℕ → ℕ → ℕ → Bool → Running
+behind p s cost least context keep =
+    record {
+      sum = s .sum + cost;
+      least = s .least + least;
+      place = cond keep (2 * p + 2) (s .place);
+      kept = cond keep (s .sum + cost) (s .kept);
+      context = context;
+    }
 
-  abbrev pub stayed : Running
-  stayed = record { sum = s .sum + cost; least = s .least + least; place = s .place; kept = s .kept; context = context }
+module _ {lookup bits : List ℕ} {f : Frame} {p a b : ℕ} {s : Running} {cost least context : ℕ} (g : Found lookup bits f p a b s cost least context) where
+  kept-most : (keep : Bool) → cond keep (s .sum + cost) (s .kept) ≤ 1044465 * (p + 1)
+  kept-most true = omega (arith, g .come .sum, g .cost-most)
+  kept-most false = omega (arith, g .come .kept)
 
-  pub pair-moves : keeps (f .target) a b (s .sum + cost) ≡ true → moved ≡ onPair lookup bits f p a b s
+  pub pair-behind : {keep : Bool} → keeps (f .target) a b (s .sum + cost) ≡ keep → (behind p s cost least context keep ≡ onPair lookup bits f p a b s) × Bounded (p + 1) (behind p s cost least context keep)
   unfolding onPair
-  pair-moves k = rw (← g .cost-is, ← g .least-is, ← g .context-is, k) refl
-
-  pub pair-stays : keeps (f .target) a b (s .sum + cost) ≡ false → stayed ≡ onPair lookup bits f p a b s
-  unfolding onPair
-  pair-stays k = rw (← g .cost-is, ← g .least-is, ← g .context-is, k) refl
-
-  module _ (small : a ≤ 32768) (small₂ : b ≤ 32768) (e : Bounded p s) where
-    low : context ≤ 255
-    low = rw (g .context-is) (behind-most (s .context) a b (omega arith) (omega arith))
-
-    pub moved-bounded : Bounded (p + 1) moved
-    moved-bounded =
-        record {
-          sum = omega (arith, e .sum, g .cost-most);
-          kept = omega (arith, e .sum, g .cost-most);
-          least = omega (arith, e .least, g .least-most);
-          context = low;
-        }
-
-    pub stayed-bounded : Bounded (p + 1) stayed
-    stayed-bounded =
-        record {
-          sum = omega (arith, e .sum, g .cost-most);
-          kept = omega (arith, e .kept);
-          least = omega (arith, e .least, g .least-most);
-          context = low;
-        }
+  pair-behind {keep} k = (
+    rw (← g .cost-is, ← g .least-is, ← g .context-is, k) refl,
+    record {
+      sum = omega (arith, g .come .sum, g .cost-most);
+      kept = kept-most keep;
+      least = omega (arith, g .come .least, g .least-most);
+      context = rw (g .context-is) (behind-most (s .context) a b (omega (arith, g .small)) (omega (arith, g .small₂)));
+    },
+  )
 
 -- before the first pair, and behind one pair more
 abbrev pub beforeAll : Running

@@ -17,12 +17,12 @@ use Rattle.range_decoder.specs.Decoder.{rangePasses}
 use Rattle.range_decoder.specs.declared.DecoderState.{DecoderState}
 use Rattle.coding.specs.Coding.{Coded, symbolBy, metOf}
 use Rattle.coding.specs.declared.Met.{Met}
-use Rattle.coding.proofs.Keeps.{keeps-at}
+use Rattle.coding.proofs.Keeps.{head-here, keeps-at}
 use Rattle.tns_data.specs.Tns.{Filter, Tns, readIndices, readFilter, readTns, sixteenOf}
 use Rattle.tns_data.specs.Private.{Laid, Told, filterOf, indicesLaid, laid, told}
 use Rattle.tns_data.specs.declared.inner.FilterRead.{FilterRead}
 use Rattle.tns_data.specs.declared.inner.FilterRead.the-variants.{Order, Refused as FilterRefused}
-use Rattle.tns_data.proofs.Within.{TnsRefusal, FilterWithin, filter-keeps}
+use Rattle.tns_data.proofs.Within.{filter-keeps}
 
 -- the indices of a filter, laid as the filter's
 filter-laid : (l : List ℕ) (at n : ℕ) (a : Answer (Coded (List ℕ) × Cursor)) →
@@ -130,7 +130,7 @@ module _ (orders coefficients : List ℕ) (weighting : ℕ) (ordersPass : partPa
   filter-behind : (f flag : ℕ) → f < 2 → (s : DecoderState) (c : Cursor) → rangePasses (s .range) ≡ true → (l : List ℕ) (at : ℕ) {x : Laid} →
       (read : Read l at (readFilter orders coefficients weighting f flag s frame c) x) → (rangePasses (x .state .range) ≡ true) × (length (read .filter .indices) ≤ 8)
   filter-behind f flag few s c ok l at read =
-      let b = keeps-at TnsRefusal (FilterWithin flag) (readFilter orders coefficients weighting f flag) (filter-keeps orders coefficients weighting ordersPass coefficientsPass listed f flag few) s frame c short ok (read .was) in
+      let b = keeps-at (filter-keeps orders coefficients weighting ordersPass coefficientsPass listed f flag few) s frame c short ok (head-here frame c) (read .was) in
       (b .range, omega (arith, b .known .most, b .known .indices .sized))
 
   module _ (firstFlag secondFlag : ℕ) (s : DecoderState) (c : Cursor) (ok : rangePasses (s .range) ≡ true) (l : List ℕ) where

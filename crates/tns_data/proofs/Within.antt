@@ -8,7 +8,7 @@ use native.Mathlib.Omega.{arith}
 use borrow.Author.Tests.{le-leb, lt-ltb, leb-true, eqb-true}
 use lib.Dec.{leb, ltb, eqb}
 use lib.ListN.{length, drop, length-take}
-use Rattle.common.specs.Reply.{Step, nowhere, side, start, order, coef, symbol, bit, Reply, accepted, refused, inStep}
+use Rattle.common.specs.Reply.{Step, nowhere, side, start, order, coef, symbol, bit, Reply, accepted, refused, inStep, headPastEnd, lowBeyondLimit}
 use Rattle.common.specs.Tables.{rowAt, rowPasses, rowsPass, partPasses, allAtMost}
 use Rattle.common.proofs.Bools.{and-left, and-right, and-both}
 use Rattle.common.proofs.Cumulatives.{row-passed}
@@ -17,7 +17,7 @@ use Rattle.buffer_reader.specs.declared.Cursor.{Cursor}
 use Rattle.range_decoder.specs.Decoder.{rangePasses}
 use Rattle.range_decoder.specs.declared.DecoderState.{DecoderState}
 use Rattle.coding.specs.Coding.{Coded, done, met, symbolBy}
-use Rattle.coding.proofs.Keeps.{Keeps, Behind, keeps-at, keeps-refused, keeps-done, keeps-onward, keeps-met, keeps-if, keeps-symbol, symbol-behind}
+use Rattle.coding.proofs.Keeps.{HeadMoved, head-here, head-byte, Behind, Keeps, keeps-at, keeps-refused, keeps-done, keeps-onward, keeps-if, met-symbol, symbol-behind}
 use Rattle.tns_data.specs.Tns.{Filter, noFilter, Tns, readIndices, readFilter, readTns}
 
 -- the steps of the two filters
@@ -78,10 +78,9 @@ order-behind orders weighting passed listed s f c short ok e =
     (omega (arith, b .known, row-length 8 weighting orders), b .range)
 
 -- a symbol by a row, met in a step of a filter
-symbol-keeps : (step : Step) → tnsStep step ≡ true → (row : List ℕ) → rowPasses row ≡ true → Keeps TnsRefusal (λ k. k < length row) (met step (symbolBy row))
+symbol-keeps : (step : Step) → tnsStep step ≡ true → (row : List ℕ) → rowPasses row ≡ true → Keeps HeadMoved TnsRefusal (λ k. k < length row) (met step (symbolBy row))
 symbol-keeps step ok row passed =
-    keeps-met TenOrEleven TnsRefusal (λ k. k < length row) step (symbolBy row) (in-filter step ok)
-    (keeps-symbol TenOrEleven (λ head. refl) (λ low limit. refl) row passed)
+    met-symbol TnsRefusal step (λ head. in-filter step ok (headPastEnd head) refl) (λ low limit. in-filter step ok (lowBeyondLimit low limit) refl) head-byte row passed
 
 no-indices : Indices 0 []
 unfolding allAtMost
@@ -91,7 +90,7 @@ never : {t : Bool} → t ≡ true → t ≡ false → ⊥
 never a b = true≢false (sym a ∙ b)
 
 module _ (coefficients : List ℕ) (passed : partPasses 8 17 coefficients ≡ true) (f : ℕ) (few : f < 2) where
-  pub indices-keep : (n k : ℕ) → k + n ≤ 8 → Keeps TnsRefusal (Indices n) (readIndices coefficients f k n)
+  pub indices-keep : (n k : ℕ) → k + n ≤ 8 → Keeps HeadMoved TnsRefusal (Indices n) (readIndices coefficients f k n)
   unfolding readIndices allAtMost
   indices-keep zero k h = keeps-done TnsRefusal (Indices 0) [] no-indices
   indices-keep (suc n) k h =
@@ -106,7 +105,7 @@ module _ (coefficients : List ℕ) (passed : partPasses 8 17 coefficients ≡ tr
       })))
 
 module _ (orders coefficients : List ℕ) (weighting : ℕ) (ordersPass : partPasses 2 8 orders ≡ true) (coefficientsPass : partPasses 8 17 coefficients ≡ true) (listed : weighting ≤ 1) where
-  pub filter-keeps : (f flag : ℕ) → f < 2 → Keeps TnsRefusal (FilterWithin flag) (readFilter orders coefficients weighting f flag)
+  pub filter-keeps : (f flag : ℕ) → f < 2 → Keeps HeadMoved TnsRefusal (FilterWithin flag) (readFilter orders coefficients weighting f flag)
   filter-keeps f flag few =
       let row : List ℕ = rowAt 8 weighting orders in
       keeps-if TnsRefusal (FilterWithin flag) (eqb flag 1) _ (done noFilter)
@@ -127,7 +126,7 @@ module _ (orders coefficients : List ℕ) (weighting : ℕ) (ordersPass : partPa
         indices = no-indices;
       }))
 
-  pub tns-keeps : (firstFlag secondFlag : ℕ) → Keeps TnsRefusal (TnsWithin firstFlag secondFlag) (readTns orders coefficients weighting firstFlag secondFlag)
+  pub tns-keeps : (firstFlag secondFlag : ℕ) → Keeps HeadMoved TnsRefusal (TnsWithin firstFlag secondFlag) (readTns orders coefficients weighting firstFlag secondFlag)
   tns-keeps firstFlag secondFlag =
       keeps-onward TnsRefusal (FilterWithin firstFlag) (TnsWithin firstFlag secondFlag) (readFilter orders coefficients weighting 0 firstFlag) _
       (filter-keeps 0 firstFlag (omega arith))
@@ -137,9 +136,9 @@ module _ (orders coefficients : List ℕ) (weighting : ℕ) (ordersPass : partPa
 
   -- the theorems, of TNS data that was read and of a refusal
   module _ (firstFlag secondFlag : ℕ) (s : DecoderState) (f : List ℕ) (c : Cursor) (short : length f ≤ 65535) (ok : rangePasses (s .range) ≡ true) where
-    -- the range passes again, the head has not gone back, the tail is as it was, and the orders and indices are within their limits
-    pub tns-behind : {r : Coded Tns × Cursor} → readTns orders coefficients weighting firstFlag secondFlag s f c ≡ accepted r → Behind (TnsWithin firstFlag secondFlag) c r
-    tns-behind e = keeps-at TnsRefusal (TnsWithin firstFlag secondFlag) (readTns orders coefficients weighting firstFlag secondFlag) (tns-keeps firstFlag secondFlag) s f c short ok e
+    -- the range passes again, the head has not gone back nor out of the frame, the tail is as it was, and the orders and indices are within their limits
+    pub tns-behind : {r : Coded Tns × Cursor} → readTns orders coefficients weighting firstFlag secondFlag s f c ≡ accepted r → Behind HeadMoved (TnsWithin firstFlag secondFlag) f c r
+    tns-behind e = keeps-at (tns-keeps firstFlag secondFlag) s f c short ok (head-here f c) e
 
     pub tns-refusal : {r : Reply} → readTns orders coefficients weighting firstFlag secondFlag s f c ≡ refused r → TnsRefusal r
-    tns-refusal e = keeps-refused TnsRefusal (TnsWithin firstFlag secondFlag) (readTns orders coefficients weighting firstFlag secondFlag) (tns-keeps firstFlag secondFlag) s f c short ok e
+    tns-refusal e = keeps-refused (tns-keeps firstFlag secondFlag) s f c short ok (head-here f c) e

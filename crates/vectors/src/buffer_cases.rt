@@ -5,6 +5,7 @@ use crate::answers::told;
 use crate::number::low;
 use crate::number::word;
 use buffer_reader::Cursor;
+use buffer_reader::reader::Read;
 use buffer_reader::reader::Taken;
 use buffer_writer::Written;
 use forms::inner::Reached;
@@ -20,25 +21,24 @@ pub(crate) fn cursor(n: [usize; 24]) -> Cursor {
 pub(crate) fn read(kind: u8, n: [usize; 24], buf: &[u8]) -> [usize; 24] {
     let at = cursor(n);
     match kind {
-        1 => reached(at, forms::inner::byte_by(buf, at)),
-        2 => reached(at, forms::inner::three_by(buf, at)),
-        3 => reached(at, forms::inner::bits_by(buf, at, n[2])),
-        _ => reached(at, forms::inner::bit_by(buf, at)),
+        1 => reached(at, forms::inner::read_by(buf, at, Read::Byte)),
+        2 => reached(at, forms::inner::read_by(buf, at, Read::Three)),
+        3 => reached(at, forms::inner::read_by(buf, at, Read::Bits(n[2]))),
+        _ => reached(at, forms::inner::read_by(buf, at, Read::Bit)),
     }
 }
 
 // A refused read has to leave the reader where it was: if not, the answer is none that is expected.
 fn reached(at: Cursor, r: Reached) -> [usize; 24] {
-    let head = r.head;
-    let tail = r.tail;
+    let next = r.at;
     let taken = r.taken;
     match taken {
-        Taken::Value(value) => accepted(word(value), Cursor { head, tail }),
+        Taken::Value(value) => accepted(word(value), next),
         Taken::Refused(why) => {
-            if head != at.head {
+            if next.head != at.head {
                 return none();
             }
-            if tail != at.tail {
+            if next.tail != at.tail {
                 return none();
             }
             of_buffer(why)

@@ -10,7 +10,7 @@ use Rattle.common.specs.Configuration.{frameLines, frameLinesOf}
 use Rattle.common.specs.Tables.{Tables}
 use Rattle.common.specs.declared.configuration.Configuration.{Configuration}
 use Rattle.common.proofs.Bools.{refuted, confirmed}
-use Rattle.side_info.proofs.Answers.{frame-ranges}
+use Rattle.common.proofs.Configurations.{frame-ranges}
 use Rattle.host.proofs.Frames.{all-fit, lines-nothing, tables-nothing, count-nothing}
 use Rattle.host.proofs.lc3_read_frames.Statement.{statement}
 use Rattle.host.proofs.lc3_read_frames.Tie as tie

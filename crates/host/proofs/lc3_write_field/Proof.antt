@@ -1,6 +1,6 @@
 -- The record is what the slices give, the answer is what the field writer's contract says of it, and what is told is of that answer.
 -- Assumes nothing.
-use mathlib.Core.Path.{_≡_, refl, ap, _∙_}
+use mathlib.Core.Path.{ap, _∙_}
 use mathlib.Core.List.{List}
 use Prim.Native.Nat.{ℕ}
 use lib.ListN.{length}
@@ -10,6 +10,7 @@ use Rattle.recording.specs.Writer.{writeField, bufferBehind, endBehind}
 use Rattle.host.specs.Given.{contentOf}
 use Rattle.host.specs.Told.{numberOf, nextOrPlace}
 use Rattle.host.proofs.Answers.{number-field}
+use Rattle.host.proofs.Contents.{handed-given}
 use borrow.Author.Needs.{needs}
 use Rattle.host.proofs.lc3_write_field.Statement.{statement}
 use Rattle.host.proofs.lc3_write_field.Tie as tie
@@ -43,29 +44,17 @@ asked c w =
     (length (a .buffer .now))
     (a .offset)
 
--- the content that is handed to the writer, and the one that the slices give
-abbrev handed : tie.After-slice-known4 → Content
-handed c =
-    let a = c .before .before .before .before .before .before .before .before .before .before .before .before .before .before .before .before .before .before .before .before .args in
-    record { side = c .before .before .before .before .before .before .before .before .before .side .result; first = a .first-order; second = a .second-order; indices = c .before .before .before .before .before .before .before .before .places .result; lines = a .lines .now; residual = a .residual .now }
-
-abbrev given : tie.After-slice-known4 → Content
-given c =
-    let a = c .before .before .before .before .before .before .before .before .before .before .before .before .before .before .before .before .before .before .before .before .args in
-    contentOf (a .words .now) (a .first-order) (a .second-order) (a .indices .now) (a .lines .now) (a .residual .now)
-
-same : (c : tie.After-slice-known4) → handed c ≡ given c
-same c = rw (c .before .before .before .before .before .before .before .before .before .side .ensures, c .before .before .before .before .before .before .before .before .places .ensures) refl
-
 returns : tie.Need-returns
 returns c =
     let a = c .before .before .before .before .before .before .before .before .before .before .before .before .before .before .before .before .before .before .before .before .args in
+    let given = contentOf (a .words .now) (a .first-order) (a .second-order) (a .indices .now) (a .lines .now) (a .residual .now) in
+    let same = handed-given (a .words .now) (a .first-order) (a .second-order) (a .indices .now) (a .lines .now) (a .residual .now) (c .before .before .before .before .before .before .before .before .before .side .ensures) (c .before .before .before .before .before .before .before .before .places .ensures) in
     let written = c .before .before .before .before .before .before .write-frame .ensures in
     let said = c .before .before .tell-field .ensures in
-    let answer = written .0 ∙ ap (λ (w : Content). endBehind (asked c w) (a .offset)) (same c) in (
-      said .0 ∙ ap (λ (o : Answer ℕ). numberOf o) answer ∙ number-field (asked c (given c)) (a .offset),
+    let answer = written .0 ∙ ap (λ (w : Content). endBehind (asked c w) (a .offset)) same in (
+      said .0 ∙ ap (λ (o : Answer ℕ). numberOf o) answer ∙ number-field (asked c given) (a .offset),
       (
-        written .1 ∙ ap (λ (w : Content). bufferBehind (asked c w) (a .offset) (a .buffer .now)) (same c),
+        written .1 ∙ ap (λ (w : Content). bufferBehind (asked c w) (a .offset) (a .buffer .now)) same,
         said .1 ∙ ap (λ (o : Answer ℕ). nextOrPlace o (a .numbers .now)) answer,
       ),
     )

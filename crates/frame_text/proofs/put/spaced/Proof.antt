@@ -1,26 +1,26 @@
 -- What is left of the numbers, over the buffer as it is now, makes what the whole asks.
 -- Assumes nothing.
 use Prim.Native.Nat.{_+_, _-_, _*_, _≤_}
-use mathlib.Core.Path.{_≡_, refl, _∙_}
+use mathlib.Core.Path.{refl}
 use native.Mathlib.Omega.{arith}
 use borrow.Author.Needs.{needs}
 use lib.ListN.{length, drop}
 use Rattle.frame_text.specs.Text.{spaced}
-use Rattle.frame_text.specs.Private.{Left}
-use Rattle.frame_text.proofs.Laid.{left-start, left-turn, left-end}
+use Rattle.frame_text.specs.Private.{Laying}
+use Rattle.frame_text.proofs.Laid.{laying-start, laying-turn, laying-end}
 use Rattle.frame_text.proofs.Texts.{spaced-turn, spaced-end}
 use Rattle.frame_text.proofs.put.spaced.Statement.{statement}
 use Rattle.frame_text.proofs.put.spaced.Tie as tie
 
 abbrev Inv-loop : tie.InvT-loop
 Inv-loop out₀ at numbers next₀ i₀ t out next i =
-    (i ≤ length numbers) × (next ≤ at + 32 * i) × (length out ≡ length out₀) × Left out next (spaced (drop i numbers)) out₀ at (spaced numbers)
+    (next ≤ at + 32 * i) × Laying (λ j. spaced (drop j numbers)) (length numbers) out₀ at out next i
 
 abbrev μ-loop : tie.MeasureT-loop
 μ-loop out₀ at numbers next₀ i₀ t out next i = length numbers - i
 
 loop-holds : tie.Need-loop-holds Inv-loop μ-loop
-loop-holds c = (omega arith, omega arith, refl, left-start)
+loop-holds c = (omega arith, laying-start)
 
 slice-aggregate-named : tie.Need-slice-aggregate-named Inv-loop μ-loop
 slice-aggregate-named c = search needs
@@ -44,14 +44,14 @@ loop-again : tie.Need-loop-again Inv-loop μ-loop
 loop-again c =
     let in-loop = c .before .before .before .before .before .before in
     let numbers = in-loop .before .before .before .before .args .numbers .now in
-    (omega arith, omega arith, c .before .before .named .kept .0 ∙ in-loop .before .loop .inv .2, left-turn (spaced-turn numbers (in-loop .before .loop .i) _ (omega arith) refl) (c .before .before .named .ensures .0) (in-loop .before .loop .inv .3))
+    (omega arith, laying-turn (omega arith) (spaced-turn numbers (in-loop .before .loop .i) _ (omega arith) refl) (c .before .before .named .ensures .0) (c .before .before .named .kept .0) (in-loop .before .loop .inv .1))
 
 same-length : tie.Need-same-length Inv-loop μ-loop
 same-length c = search needs
 
 returns : tie.Need-returns Inv-loop μ-loop
 returns c =
-    (left-end (spaced-end (c .before .before .before .before .args .numbers .now) (c .before .loop .i) (c .loop-test .left)) (c .before .loop .inv .3), omega arith)
+    (laying-end (spaced-end (c .before .before .before .before .args .numbers .now) (c .before .loop .i) (c .loop-test .left)) (c .before .loop .inv .1), omega arith)
 
 pub spaced-spec : {M : Type 1} → statement M
 spaced-spec =

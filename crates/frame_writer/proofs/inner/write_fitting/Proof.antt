@@ -4,9 +4,9 @@ use Prim.Native.Nat.{_≤_}
 use mathlib.Core.Path.{_≡_, ap, _∙_}
 use native.Mathlib.Omega.{arith}
 use lib.ListN.{length}
+use Rattle.common.proofs.Lasts.{log-range}
 use Rattle.range_encoder.specs.Encoder.{shiftsOf, reservedOf}
 use Rattle.range_encoder.specs.Private.{Fits}
-use Rattle.range_encoder.proofs.Endings.{log-range}
 use Rattle.frame_writer.specs.Frame.{reserved}
 use Rattle.frame_writer.specs.Private.{contentOf}
 use Rattle.frame_writer.proofs.Streams.{symbolsIn, early-length, early-few, count-asked-at, count-behind-at}

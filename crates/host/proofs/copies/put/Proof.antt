@@ -1,28 +1,26 @@
 -- What is left to lay, over the slice as it is now, makes what the whole asks; the loop ends where either list does.
 -- Assumes nothing.
-use Prim.Native.Nat.{_≤_, _-_}
-use mathlib.Core.Path.{_≡_, refl, sym, _∙_}
+use Prim.Native.Nat.{_-_}
 use native.Mathlib.Omega.{arith}
-use lib.ListN.{length, drop, length-set}
-use lib.Seq.{sets}
-use Rattle.common.proofs.Laid.{sets-past, sets-turn, sets-end}
+use lib.ListN.{length, length-set}
+use Rattle.common.proofs.Laid.{Copying, copying-start, copying-turn, copying-end, copying-full}
 use Rattle.host.proofs.copies.put.Statement.{statement}
 use Rattle.host.proofs.copies.put.Tie as tie
 
 abbrev Inv-loop : tie.InvT-loop
-Inv-loop to₀ from i₀ to i = (i ≤ length to) × (length to ≡ length to₀) × (sets to i (drop i from) ≡ sets to₀ 0 from)
+Inv-loop to₀ from i₀ to i = Copying to₀ from to i
 
 abbrev μ-loop : tie.MeasureT-loop
 μ-loop to₀ from i₀ to i = length to - i
 
 loop-holds : tie.Need-loop-holds Inv-loop μ-loop
-loop-holds c = (omega arith, refl, refl)
+loop-holds c = copying-start
 
 same-length : tie.Need-same-length Inv-loop μ-loop
 same-length c = omega arith
 
 returns : tie.Need-returns Inv-loop μ-loop
-returns c = sym (sets-end _ _ _ (c .if1 .taken)) ∙ c .before .before .loop .inv .2
+returns c = copying-end (c .if1 .taken) (c .before .before .loop .inv)
 
 mul-to : tie.Need-mul-to Inv-loop μ-loop
 mul-to c = omega arith
@@ -43,13 +41,13 @@ loop-less : tie.Need-loop-less Inv-loop μ-loop
 loop-less c = simp length-set (omega arith)
 
 loop-again : tie.Need-loop-again Inv-loop μ-loop
-loop-again c = (simp length-set (omega arith), simp length-set (omega arith), sym (sets-turn _ (c .before .before .before .before .args .from .now) (c .before .before .before .loop .i) (omega arith)) ∙ c .before .before .before .loop .inv .2)
+loop-again c = copying-turn (omega arith) (omega arith) (c .before .before .before .loop .inv)
 
 same-length-2 : tie.Need-same-length-2 Inv-loop μ-loop
 same-length-2 c = omega arith
 
 returns-2 : tie.Need-returns-2 Inv-loop μ-loop
-returns-2 c = sym (sets-past (drop (c .before .loop .i) (c .before .before .args .from .now)) (c .before .loop .to) (c .before .loop .i) (omega arith)) ∙ c .before .loop .inv .2
+returns-2 c = copying-full (omega arith) (c .before .loop .inv)
 
 pub put-spec : {M : Type 1} → statement M
 put-spec =

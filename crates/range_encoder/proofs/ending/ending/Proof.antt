@@ -6,9 +6,10 @@ use mathlib.Core.Bool.{cond}
 use native.Mathlib.Omega.{arith}
 use borrow.Author.Tests.{le-leb, lt-leb}
 use lib.Dec.{leb}
+use Rattle.common.proofs.Lasts.{log-range}
 use Rattle.range_encoder.specs.Finish.{valOf, endingAt, ending}
 use Rattle.range_encoder.specs.Private.{maskOf}
-use Rattle.range_encoder.proofs.Endings.{log-range, mask-fits}
+use Rattle.range_encoder.proofs.Endings.{mask-fits}
 use Rattle.range_encoder.proofs.Ends.{ends-apart, ends-same}
 use borrow.Author.Needs.{needs}
 use Rattle.range_encoder.proofs.ending.ending.Statement.{statement}

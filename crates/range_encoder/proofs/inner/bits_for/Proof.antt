@@ -1,7 +1,7 @@
 -- `inner::bits_for` meets its contract: the range's logarithm is at most 23, so the difference is exact. Assumes nothing.
 use native.Mathlib.Omega.{arith}
-use Rattle.range_encoder.proofs.Endings.{log-range}
 use borrow.Author.Needs.{needs}
+use Rattle.common.proofs.Lasts.{log-range}
 use Rattle.range_encoder.proofs.inner.bits_for.Statement.{statement}
 use Rattle.range_encoder.proofs.inner.bits_for.Tie as tie
 

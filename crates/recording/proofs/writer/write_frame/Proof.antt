@@ -19,13 +19,22 @@ use Rattle.recording.proofs.Fields.{long-refused, room-refused, frame-r
 use Rattle.recording.proofs.writer.write_frame.Statement.{statement}
 use Rattle.recording.proofs.writer.write_frame.Tie as tie
 
+-- the tables and the content that are lent
+abbrev tables : tie.Start → Tables
+tables s =
+    let a = s .args in
+    record { lookup = a .lookup .now; frequencies = a .frequencies .now; bits = a .bits .now; orders = a .orders .now; coefficients = a .coefficients .now }
+
+abbrev content : tie.Start → Content
+content s =
+    let a = s .args in
+    record { side = a .side; first = a .first-order; second = a .second-order; indices = a .indices; lines = a .lines .now; residual = a .residual .now }
+
 returns : tie.Need-returns
 returns c =
-    let a = c .before .before .before .before .before .before .before .before .args in
-    let k = a .configuration in
-    let t : Tables = record { lookup = a .lookup .now; frequencies = a .frequencies .now; bits = a .bits .now; orders = a .orders .now; coefficients = a .coefficients .now } in
-    let w : Content = record { side = a .side; first = a .first-order; second = a .second-order; indices = a .indices; lines = a .lines .now; residual = a .residual .now } in
-    let x = long-refused k t w (a .bytes) (a .offset) (a .buffer .now) (c .if1 .taken) in
+    let s = c .before .before .before .before .before .before .before .before in
+    let a = s .args in
+    let x = long-refused (a .configuration) (tables s) (content s) (a .bytes) (a .offset) (a .buffer .now) (c .if1 .taken) in
     (x .told-is, x .lent-is)
 
 add-within : tie.Need-add-within
@@ -36,11 +45,9 @@ within-requires c κs = search needs
 
 returns-2 : tie.Need-returns-2
 returns-2 c =
-    let a = c .before .before .before .before .before .before .before .before .before .before .args in
-    let k = a .configuration in
-    let t : Tables = record { lookup = a .lookup .now; frequencies = a .frequencies .now; bits = a .bits .now; orders = a .orders .now; coefficients = a .coefficients .now } in
-    let w : Content = record { side = a .side; first = a .first-order; second = a .second-order; indices = a .indices; lines = a .lines .now; residual = a .residual .now } in
-    let x = room-refused k t w (a .bytes) (a .offset) (a .buffer .now) (le-leb (a .bytes) fieldMost (c .before .before .if1 .left)) (refuted (c .before .within .ensures) (c .if2 .taken)) in
+    let s = c .before .before .before .before .before .before .before .before .before .before in
+    let a = s .args in
+    let x = room-refused (a .configuration) (tables s) (content s) (a .bytes) (a .offset) (a .buffer .now) (le-leb (a .bytes) fieldMost (c .before .before .if1 .left)) (refuted (c .before .within .ensures) (c .if2 .taken)) in
     (x .told-is, x .lent-is)
 
 -- behind both tests the frame is not longer than a field may be, and the field lies within the buffer
@@ -97,12 +104,10 @@ same-length c = search needs
 
 returns-3 : tie.Need-returns-3
 returns-3 c =
-    let a = c .before .before .before .before .before .before .before .before .before .before .before .before .before .before .before .before .before .args in
-    let k = a .configuration in
-    let t : Tables = record { lookup = a .lookup .now; frequencies = a .frequencies .now; bits = a .bits .now; orders = a .orders .now; coefficients = a .coefficients .now } in
-    let w : Content = record { side = a .side; first = a .first-order; second = a .second-order; indices = a .indices; lines = a .lines .now; residual = a .residual .now } in
+    let s = c .before .before .before .before .before .before .before .before .before .before .before .before .before .before .before .before .before in
+    let a = s .args in
     let e = c .before .before .before .before .before .before .before in
-    let x = frame-refused k t w (a .bytes) (a .offset) (a .buffer .now) (short e) (within e) (part e) _ _ refl (size e) (sym (ap writtenOf (c .before .e .given .1)) ∙ c .before .before .before .before .before .write .ensures .0) (c .before .before .before .before .before .write .ensures .1) in
+    let x = frame-refused (a .configuration) (tables s) (content s) (a .bytes) (a .offset) (a .buffer .now) (short e) (within e) (part e) _ _ refl (size e) (sym (ap writtenOf (c .before .e .given .1)) ∙ c .before .before .before .before .before .write .ensures .0) (c .before .before .before .before .before .write .ensures .1) in
     (x .told-is, x .lent-is)
 
 same-length-2 : tie.Need-same-length-2
@@ -110,12 +115,10 @@ same-length-2 c = search needs
 
 returns-4 : tie.Need-returns-4
 returns-4 c =
-    let a = c .before .before .before .before .before .before .before .before .before .before .before .before .before .before .before .before .before .before .before .before .args in
-    let k = a .configuration in
-    let t : Tables = record { lookup = a .lookup .now; frequencies = a .frequencies .now; bits = a .bits .now; orders = a .orders .now; coefficients = a .coefficients .now } in
-    let w : Content = record { side = a .side; first = a .first-order; second = a .second-order; indices = a .indices; lines = a .lines .now; residual = a .residual .now } in
+    let s = c .before .before .before .before .before .before .before .before .before .before .before .before .before .before .before .before .before .before .before .before in
+    let a = s .args in
     let e = c .before .before .before .before .before .before .before .before .before .before in
-    let x = frame-written k t w (a .bytes) (a .offset) (a .buffer .now) (short e) (within e) (part e) _ _ (size e) (sym (ap writtenOf (c .before .before .before .before .enum-told .given .1)) ∙ c .before .before .before .before .before .before .before .before .write .ensures .0) (c .before .before .before .before .before .before .before .before .write .ensures .1) (c .before .before .put-header .ensures) in
+    let x = frame-written (a .configuration) (tables s) (content s) (a .bytes) (a .offset) (a .buffer .now) (short e) (within e) (part e) _ _ (size e) (sym (ap writtenOf (c .before .before .before .before .enum-told .given .1)) ∙ c .before .before .before .before .before .before .before .before .write .ensures .0) (c .before .before .before .before .before .before .before .before .write .ensures .1) (c .before .before .put-header .ensures) in
     (x .told-is, x .lent-is)
 
 pub write-frame-spec : {M : Type 1} → statement M

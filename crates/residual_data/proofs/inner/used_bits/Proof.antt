@@ -1,8 +1,8 @@
 -- `inner::used_bits` meets its contract: the range's logarithm is at most 23, so the difference is never cut.
 -- Assumes nothing.
 use native.Mathlib.Omega.{arith}
-use Rattle.residual_data.proofs.Rooms.{log-most}
 use borrow.Author.Needs.{needs}
+use Rattle.common.proofs.Lasts.{log-range}
 use Rattle.residual_data.proofs.inner.used_bits.Statement.{statement}
 use Rattle.residual_data.proofs.inner.used_bits.Tie as tie
 
@@ -22,7 +22,7 @@ floor-log2-requires : tie.Need-floor-log2-requires
 floor-log2-requires c κs = search needs
 
 sub-result-2 : tie.Need-sub-result-2
-sub-result-2 c = omega (arith, log-most (c .before .before .before .args .range) (omega arith) (omega arith))
+sub-result-2 c = omega (arith, log-range (c .before .before .before .args .range) (omega arith) (omega arith))
 
 returns : tie.Need-returns
 returns c = search needs

@@ -3,7 +3,7 @@
 use mathlib.Core.Path.{refl, sym, ap, _∙_}
 use lib.ListN.{length}
 use Rattle.common.specs.Configuration.{frameLinesOf}
-use Rattle.side_info.proofs.Answers.{frame-ranges}
+use Rattle.common.proofs.Configurations.{frame-ranges}
 use borrow.Author.Needs.{needs}
 use Rattle.side_info.proofs.reader.read.Statement.{statement}
 use Rattle.side_info.proofs.reader.read.Tie as tie

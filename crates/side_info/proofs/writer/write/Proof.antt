@@ -8,9 +8,10 @@ use lib.ListN.{length}
 use Rattle.common.specs.Reply.{accepted}
 use Rattle.common.specs.Configuration.{frameLines, frameLinesOf}
 use Rattle.common.proofs.Bools.{refuted, confirmed}
+use Rattle.common.proofs.Configurations.{frame-ranges}
 use Rattle.side_info.specs.Record.{sidePasses}
 use Rattle.side_info.specs.Layout.{sideLength}
-use Rattle.side_info.proofs.Answers.{frame-ranges, write-refused, write-field, write-on}
+use Rattle.side_info.proofs.Answers.{write-refused, write-field, write-on}
 use Rattle.side_info.proofs.Lengths.{length-range}
 use borrow.Author.Needs.{needs}
 use Rattle.side_info.proofs.writer.write.Statement.{statement}

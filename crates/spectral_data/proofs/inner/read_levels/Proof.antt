@@ -3,7 +3,7 @@
 use Rattle.spectral_data.proofs.Turns.{levels-last, levels-escape, levels-refused, levels-end}
 use Rattle.spectral_data.proofs.Sizes.{low-more, low-most}
 use Rattle.spectral_data.proofs.Bounds.{Turnwise, turn-going}
-use Rattle.spectral_data.proofs.Codings.{Behind, going-at}
+use Rattle.coding.proofs.Keeps.{BothMoved, both-here, Behind, keeps-at}
 use Rattle.spectral_data.specs.Private.{Turned, escape, turnBy, turnOf}
 use Rattle.spectral_data.specs.Spectral.{readLevels}
 use Rattle.common.specs.Reply.{accepted}
@@ -46,12 +46,12 @@ escaped : (c : tie.After-known-told2 Inv-loop μ-loop) →
 escaped c = sym (c .before .before .before .read-turn .ensures) ∙ ap turnOf (c .before .a .given .1)
 
 -- its bits are 0 or 1, and the range behind it passes
-turned : (c : tie.After-known-told2 Inv-loop μ-loop) → Behind Turnwise (c .before .before .before .before .before .loop .place) (escapeAt c)
+turned : (c : tie.After-known-told2 Inv-loop μ-loop) → Behind BothMoved Turnwise (c .before .before .before .before .before .before .before .before .before .args .buf .now) (c .before .before .before .before .before .loop .place) (escapeAt c)
 turned c =
     let a = c .before .before .before .before .before .before .before .before .before .args in
     let j = c .before .before .before .before .before .before .before .before .before .pre .0 in
     let l = c .before .before .before .before .before .loop in
-    going-at (turn-going (a .lookup .now) (a .frequencies .now) (j .looked) (j .rows) (a .lsb) (a .p) (a .start) (l .level) (omega (arith, more (c .before .before .before .before)))) (l .here) (a .buf .now) (l .place) (j .short) (l .inv .3) (escaped c)
+    keeps-at (turn-going (a .lookup .now) (a .frequencies .now) (j .looked) (j .rows) (a .lsb) (a .p) (a .start) (l .level) (omega (arith, more (c .before .before .before .before)))) (l .here) (a .buf .now) (l .place) (j .short) (l .inv .3) (both-here (a .buf .now) (l .place)) (escaped c)
 
 loop-holds : tie.Need-loop-holds Inv-loop μ-loop
 loop-holds c = (omega arith, omega arith, omega arith, c .before .before .before .pre .0 .range, refl)
@@ -74,7 +74,7 @@ enum-known-a : tie.Need-enum-known-a Inv-loop μ-loop
 enum-known-a c = search needs
 
 raised-requires : tie.Need-raised-requires Inv-loop μ-loop
-raised-requires c κs = (omega (arith, turned c .value .0), omega (arith, c .before .before .before .before .before .loop .inv .0))
+raised-requires c κs = (omega (arith, turned c .known .0), omega (arith, c .before .before .before .before .before .loop .inv .0))
 
 add-low-first : tie.Need-add-low-first Inv-loop μ-loop
 add-low-first c =
@@ -82,7 +82,7 @@ add-low-first c =
     record { fits = omega (arith, low-most (l .level) (l .low-first) (l .inv .1) (l .inv .0), c .raised .ensures .1) }
 
 raised-requires-2 : tie.Need-raised-requires-2 Inv-loop μ-loop
-raised-requires-2 c κs = (omega (arith, turned (c .before) .value .1), omega (arith, c .before .before .before .before .before .before .loop .inv .0))
+raised-requires-2 c κs = (omega (arith, turned (c .before) .known .1), omega (arith, c .before .before .before .before .before .before .loop .inv .0))
 
 add-low-second : tie.Need-add-low-second Inv-loop μ-loop
 add-low-second c =
@@ -101,8 +101,8 @@ loop-again c =
     let l = c .before .before .before .before .before .before .before .loop in
     let bits = turned (c .before .before) in (
       omega (arith, more (c .before .before .before .before .before .before)),
-      rw (c .before .raised .ensures .0) (low-more (l .level) (l .low-first) _ (l .inv .1) (bits .value .0)),
-      rw (c .raised2 .ensures .0) (low-more (l .level) (l .low-second) _ (l .inv .2) (bits .value .1)),
+      rw (c .before .raised .ensures .0) (low-more (l .level) (l .low-first) _ (l .inv .1) (bits .known .0)),
+      rw (c .raised2 .ensures .0) (low-more (l .level) (l .low-second) _ (l .inv .2) (bits .known .1)),
       bits .range,
       rw (c .before .raised .ensures .0, c .raised2 .ensures .0) (sym (levels-escape (a .lookup .now) (a .frequencies .now) (a .lsb) (a .p) (a .start) (l .level) (l .low-first) (l .low-second) (l .here) (a .buf .now) (l .place) (more (c .before .before .before .before .before .before)) _ _ _ _ (escaped (c .before .before))) ∙ l .inv .4),
     )

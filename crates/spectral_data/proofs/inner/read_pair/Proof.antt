@@ -1,7 +1,7 @@
 -- `inner::read_pair` meets its contract: the levels, then the signs, whose magnitudes keep their bounds.
 -- Assumes nothing.
 use Rattle.spectral_data.proofs.Bounds.{levels-going}
-use Rattle.spectral_data.proofs.Codings.{going-at}
+use Rattle.coding.proofs.Keeps.{both-here, keeps-at}
 use Rattle.spectral_data.specs.Private.{levelsOf}
 use native.Mathlib.Omega.{arith}
 use mathlib.Core.Path.{refl, sym, ap, _∙_}
@@ -20,8 +20,8 @@ signs-requires c κs =
     let a = c .before .before .before .before .before .before .before .args in
     let j = c .before .before .before .before .before .before .before .pre .0 in (
       j .short,
-      going-at (levels-going (a .lookup .now) (a .frequencies .now) (j .looked) (j .rows) (a .lsb) (a .p) (a .start) 14 0 0 0 refl (omega arith) (omega arith)) (a .state) (a .buf .now) (a .at) (j .short) (j .range)
-          (sym (c .before .before .before .read-levels .ensures) ∙ ap levelsOf (c .before .read .given .1)) .value,
+      keeps-at (levels-going (a .lookup .now) (a .frequencies .now) (j .looked) (j .rows) (a .lsb) (a .p) (a .start) 14 0 0 0 refl (omega arith) (omega arith)) (a .state) (a .buf .now) (a .at) (j .short) (j .range) (both-here (a .buf .now) (a .at))
+          (sym (c .before .before .before .read-levels .ensures) ∙ ap levelsOf (c .before .read .given .1)) .known,
     )
 
 enum-known-e : tie.Need-enum-known-e

@@ -3,7 +3,7 @@
 use Rattle.spectral_data.proofs.Pairs.{fillFrom, fill-start, fill-turn, fill-refused, fill-end}
 use Rattle.spectral_data.proofs.Sizes.{context-low}
 use Rattle.spectral_data.proofs.Bounds.{Sized, pair-going}
-use Rattle.spectral_data.proofs.Codings.{Behind, going-at}
+use Rattle.coding.proofs.Keeps.{BothMoved, both-here, Behind, keeps-at}
 use Rattle.spectral_data.specs.Private.{filling, pairIn, pairOf}
 use Rattle.spectral_data.specs.Spectral.{Pair, readPair, readPairs}
 use Rattle.range_decoder.specs.Decoder.{rangePasses}
@@ -61,12 +61,12 @@ pairRead : (c : tie.After-known-told Inv-loop μ-loop) →
 pairRead c = startsAt (c .before .before .before .before) ∙ sym (c .before .before .before .read-pair .ensures) ∙ ap pairOf (c .before .read .given .1)
 
 -- it keeps its bounds, and the range behind it passes
-behind : (c : tie.After-known-told Inv-loop μ-loop) → Behind Sized (c .before .before .before .before .before .before .loop .place) (pairAt c)
+behind : (c : tie.After-known-told Inv-loop μ-loop) → Behind BothMoved Sized (c .before .before .before .before .before .before .before .before .before .before .before .args .buf .now) (c .before .before .before .before .before .before .loop .place) (pairAt c)
 behind c =
     let a = c .before .before .before .before .before .before .before .before .before .before .before .args in
     let j = c .before .before .before .before .before .before .before .before .before .before .before .pre .0 in
     let l = c .before .before .before .before .before .before .loop in
-    going-at (pair-going (a .lookup .now) (a .frequencies .now) (j .looked) (j .rows) (a .lsb) (l .p) (lookupStart (l .context) (a .rate) (a .ne) (2 * l .p))) (l .here) (a .buf .now) (l .place) (j .short) (l .inv .2) (pairRead c)
+    keeps-at (pair-going (a .lookup .now) (a .frequencies .now) (j .looked) (j .rows) (a .lsb) (l .p) (lookupStart (l .context) (a .rate) (a .ne) (2 * l .p))) (l .here) (a .buf .now) (l .place) (j .short) (l .inv .2) (both-here (a .buf .now) (l .place)) (pairRead c)
 
 loop-holds : tie.Need-loop-holds Inv-loop μ-loop
 loop-holds c =
@@ -96,10 +96,10 @@ store-requires c κs =
     let l = c .before .before .before .before .before .before .before .before .loop in
     let pre = c .before .before .before .before .before .before .before .before .before .before .before .before .before .pre in
     let t = more (c .before .before .before .before .before .before .before) in
-    (omega (arith, pre .3, l .inv .3, t), omega (arith, pre .4, l .inv .4, t), behind (c .before .before) .value .few)
+    (omega (arith, pre .3, l .inv .3, t), omega (arith, pre .4, l .inv .4, t), behind (c .before .before) .known .few)
 
 context-behind-requires : tie.Need-context-behind-requires Inv-loop μ-loop
-context-behind-requires c κs = behind (c .before .before .before .before .before .before) .value .symbolMost
+context-behind-requires c κs = behind (c .before .before .before .before .before .before) .known .symbolMost
 
 add-p : tie.Need-add-p Inv-loop μ-loop
 add-p c = omega (arith, more (c .before .before .before .before .before .before .before .before .before .before .before .before))
@@ -116,7 +116,7 @@ loop-again c =
     let x = pairAt (c .before .before .before .before .before .before .before) in
     let bounds = behind (c .before .before .before .before .before .before .before) in (
       omega (arith, t),
-      rw (c .context-behind .ensures) (context-low (l .context) (x .0 .value .last) (x .0 .value .escapes) (bounds .value .symbolMost)),
+      rw (c .context-behind .ensures) (context-low (l .context) (x .0 .value .last) (x .0 .value .escapes) (bounds .known .symbolMost)),
       bounds .range,
       rw (c .before .before .before .before .store .ensures .0) (simp length-set (l .inv .3)),
       rw (c .before .before .before .before .store .ensures .1) (simp length-set (l .inv .4)),

@@ -1,16 +1,16 @@
 -- `estimate::compute_bit_consumption` meets its contract: 1, 2, 3 and 4 in this order, and then the sums.
 -- Assumes nothing.
-use Prim.Native.Nat.{_*_, _≤_}
+use Prim.Native.Nat.{_*_}
 use mathlib.Core.Path.{_≡_, sym, ap, _∙_}
 use mathlib.Core.Bool.{true}
 use native.Mathlib.Omega.{arith}
 use denote.Ref.{now}
 use lib.ListN.{length}
-use Rattle.common.specs.Configuration.{configurationPasses, ne, lengthPasses, frameLines, frameLinesOf}
+use Rattle.common.specs.Configuration.{frameLines, frameLinesOf}
 use Rattle.common.specs.Reply.{accepted}
 use Rattle.common.specs.Tables.{Tables, tablesPass}
 use Rattle.common.proofs.Bools.{refuted, confirmed}
-use Rattle.common.proofs.Configurations.{fs-limit, ne-range, length-limits, frame-known}
+use Rattle.common.proofs.Configurations.{frame-ranges}
 use Rattle.common.proofs.Sets.{lookup-passed, bits-passed}
 use Rattle.contexts.specs.Contexts.{magnitudes}
 use Rattle.contexts.proofs.Lookups.{rate-most}
@@ -36,14 +36,9 @@ set-at s =
       coefficients = now (a .coefficients);
     }
 
--- behind 1 and 2: the frame's lines are known, and what passed
+-- behind 1 and 2: the frame's lines are known
 known : (c : tie.After-ne) → frameLines (start (c .before .before) .args .configuration) (start (c .before .before) .args .bytes) ≡ accepted (c .ne .given .0 .0)
 known c = sym (c .before .before .frame-lines .ensures) ∙ ap frameLinesOf (c .ne .given .1)
-
-passed : (c : tie.After-ne) → (configurationPasses (start (c .before .before) .args .configuration) ≡ true) × (lengthPasses (start (c .before .before) .args .bytes) ≡ true) × (c .ne .given .0 .0 ≡ ne (start (c .before .before) .args .configuration .duration) (start (c .before .before) .args .configuration .«fs_ind»))
-passed c =
-    let a = start (c .before .before) .args in
-    frame-known (a .configuration) (a .bytes) (known c)
 
 -- behind 3
 held : (c : tie.Else2) → tablesPass (set-at (start (c .before .before .before .before .before))) ≡ true
@@ -91,7 +86,8 @@ frame-of-requires : tie.Need-frame-of-requires
 frame-of-requires c κs =
     let n = c .before .before .before .before in
     let a = start (n .before .before) .args in
-    (fs-limit (a .configuration) (passed n .0), length-limits (a .bytes) (passed n .1) .1)
+    let (low, _, _, _, short) = frame-ranges (a .configuration) (a .bytes) (known n) in
+    (low, short)
 
 consumption-requires : tie.Need-consumption-requires
 unfolding set-at
@@ -99,11 +95,11 @@ consumption-requires c κs =
     let n = c .before .before .before .before .before in
     let s = start (n .before .before) in
     let h = held (c .before .before) in
-    let r = ne-range (s .args .configuration) (passed n .0) in (
+    let (_, least, most, _, _) = frame-ranges (s .args .configuration) (s .args .bytes) (known n) in (
       record { passes = lookup-passed (set-at s) h; size = bits-passed (set-at s) h },
       rw (ap (λ (f : Frame). f .rate) (c .frame-of .ensures)) (rate-most (8 * s .args .bytes) (s .args .configuration .«fs_ind»)),
-      omega (arith, c .before .if3 .left, passed n .2, r .0),
-      omega (arith, c .before .if3 .left, passed n .2, r .1),
+      omega (arith, c .before .if3 .left, least),
+      omega (arith, c .before .if3 .left, most),
     )
 
 returns-4 : tie.Need-returns-4

@@ -3,7 +3,7 @@
 use Prim.Native.Nat.{_*_, _<_}
 use mathlib.Core.Path.{refl, sym, _∙_}
 use Rattle.contexts.proofs.Lookups.{start-low}
-use Rattle.spectral_quantization.proofs.Runs.{Found, pair-moves, pair-stays, moved-bounded, stayed-bounded}
+use Rattle.spectral_quantization.proofs.Runs.{Found, pair-behind}
 use borrow.Author.Needs.{needs}
 use Rattle.spectral_quantization.proofs.estimate.on_pair.Statement.{statement}
 use Rattle.spectral_quantization.proofs.estimate.on_pair.Tie as tie
@@ -20,7 +20,11 @@ found : (c : tie.After-context-behind) →
     let a = c .before .before .before .before .before .before .before .before .before .args in
     Found (a .lookup .now) (a .bits .now) (a .frame) (a .p) (a .a) (a .b) (a .s) (c .before .before .before .before .pair-cost .result) (c .before .before .least-bits .result) (c .context-behind .result)
 found c =
+    let s = c .before .before .before .before .before .before .before .before .before in
     record {
+      small = s .pre .3;
+      small₂ = s .pre .4;
+      come = s .pre .5;
       cost-is = c .before .before .before .before .pair-cost .ensures .0 ∙ rw (c .before .before .before .before .before .lookup-start .ensures) refl;
       cost-most = c .before .before .before .before .pair-cost .ensures .1;
       least-is = c .before .before .least-bits .ensures .0;
@@ -64,28 +68,10 @@ add-t18 : tie.Need-add-t18
 add-t18 c = search needs
 
 returns : tie.Need-returns
-returns c =
-    let at = c .before .before in
-    let s = at .before .before .before .before .before .before .before .before .before in
-    let a = s .args in
-    let cost = at .before .before .before .before .pair-cost .result in
-    let least = at .before .before .least-bits .result in
-    let context = at .context-behind .result in (
-      pair-moves (a .lookup .now) (a .bits .now) (a .frame) (a .p) (a .a) (a .b) (a .s) cost least context (found at) (sym (c .before .keeps .ensures) ∙ c .if1 .taken),
-      moved-bounded (a .lookup .now) (a .bits .now) (a .frame) (a .p) (a .a) (a .b) (a .s) cost least context (found at) (s .pre .3) (s .pre .4) (s .pre .5),
-    )
+returns c = pair-behind (found (c .before .before)) (sym (c .before .keeps .ensures) ∙ c .if1 .taken)
 
 returns-2 : tie.Need-returns-2
-returns-2 c =
-    let at = c .before .before in
-    let s = at .before .before .before .before .before .before .before .before .before in
-    let a = s .args in
-    let cost = at .before .before .before .before .pair-cost .result in
-    let least = at .before .before .least-bits .result in
-    let context = at .context-behind .result in (
-      pair-stays (a .lookup .now) (a .bits .now) (a .frame) (a .p) (a .a) (a .b) (a .s) cost least context (found at) (sym (c .before .keeps .ensures) ∙ c .if1 .left),
-      stayed-bounded (a .lookup .now) (a .bits .now) (a .frame) (a .p) (a .a) (a .b) (a .s) cost least context (found at) (s .pre .3) (s .pre .4) (s .pre .5),
-    )
+returns-2 c = pair-behind (found (c .before .before)) (sym (c .before .keeps .ensures) ∙ c .if1 .left)
 
 pub on-pair-spec : {M : Type 1} → statement M
 on-pair-spec =
