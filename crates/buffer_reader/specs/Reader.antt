@@ -2,9 +2,9 @@
 -- the reader, or refuses and leaves it.
 use Prim.Native.Nat.{ℕ}
 use mathlib.Core.List.{List}
-use Rattle.common.specs.Reply.{Answer, accepted, refused, andThen}
-use Rattle.buffer_reader.specs.Reads.{takeByte, takeThree, takeBits, takeBit, replyOf}
-use Rattle.buffer_reader.specs.Steps.{Reading, asNumber}
+use Rattle.common.specs.Reply.{Answer, accepted, refused}
+use Rattle.buffer_reader.specs.Reads.{takeByte, takeThree, takeBits, replyOf}
+use Rattle.buffer_reader.specs.Steps.{Reading, takeFlag}
 use Rattle.buffer_reader.specs.declared.Cursor.{Cursor}
 use Rattle.buffer_reader.specs.declared.reader.Reader.{Reader}
 use Rattle.buffer_reader.specs.declared.reader.Read.{Read}
@@ -15,10 +15,6 @@ use Rattle.buffer_reader.specs.declared.reader.Taken.the-variants.{Value
 -- where it stands
 abbrev pub standing : Reader → Cursor
 standing r = record { head = r .head; tail = r .tail }
-
--- a bit as 0 or 1
-abbrev pub takeFlag : Reading ℕ
-takeFlag f c = andThen (takeBit f c) asNumber
 
 -- the cursor's read that is meant
 abbrev pub taking : Read → Reading ℕ

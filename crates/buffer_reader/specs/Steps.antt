@@ -29,9 +29,13 @@ ifPresent present reading = cond present reading (found 0)
 abbrev pub fieldIn : Step → ℕ → Reading ℕ
 fieldIn step n f c = within step (takeBits f c n)
 
--- one bit as 0 or 1, met in a step
+-- one bit as 0 or 1
 abbrev pub asNumber : Bool × Cursor → Answer (ℕ × Cursor)
 asNumber r = accepted (cond (r .0) 1 0, r .1)
 
+abbrev pub takeFlag : Reading ℕ
+takeFlag f c = andThen (takeBit f c) asNumber
+
+-- it, met in a step
 abbrev pub flagIn : Step → Reading ℕ
-flagIn step f c = within step (andThen (takeBit f c) asNumber)
+flagIn step f c = within step (takeFlag f c)

@@ -2,7 +2,8 @@
 ghost use mathlib.Core.Path.{_≡_};
 ghost use mathlib.Core.Bool.{cond};
 ghost use Rattle.buffer_reader.specs.Reads.{takeByte, takeThree, takeBits};
-ghost use Rattle.buffer_reader.specs.Reader.{takeFlag, taking, standing, valueOf, takenOf, behind};
+ghost use Rattle.buffer_reader.specs.Steps.{takeFlag};
+ghost use Rattle.buffer_reader.specs.Reader.{taking, standing, valueOf, takenOf, behind};
 ghost use Rattle.buffer_reader.specs.Private.{Moves, cursorAt};
 use crate::BufferError;
 use crate::Cursor;

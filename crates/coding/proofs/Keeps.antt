@@ -12,9 +12,8 @@ use Rattle.common.specs.Reply.{Step, Reply, Answer, accepted, refused, within, 
 use Rattle.common.specs.Tables.{rowPasses}
 use Rattle.common.proofs.Bools.{or-fails-second}
 use Rattle.common.proofs.Replies.{accepted-same, then-split, given-split}
-use Rattle.buffer_reader.specs.Reader.{takeFlag}
 use Rattle.buffer_reader.specs.Reads.{takeByte, takeBit, bitBeyond}
-use Rattle.buffer_reader.specs.Steps.{next, found, asNumber}
+use Rattle.buffer_reader.specs.Steps.{next, found, asNumber, takeFlag}
 use Rattle.buffer_reader.specs.declared.Cursor.{Cursor}
 use Rattle.buffer_reader.proofs.Roomy.{Ends, ends-given, ends-then}
 use Rattle.range_decoder.specs.Decoder.{unitOf, owner, narrowed, appendByte, renormalised, Decoded, symbolStep, rangePasses}

@@ -3,8 +3,7 @@
 use Prim.Native.Nat.{ℕ}
 use mathlib.Core.List.{List, [], _∷_}
 use Rattle.common.specs.Reply.{Step, side, start, order, coef, symbol, bit, Reply, reply, headPastEnd, lowBeyondLimit, inStep, within}
-use Rattle.buffer_reader.specs.Reader.{takeFlag}
-use Rattle.buffer_reader.specs.Steps.{Reading, found, next}
+use Rattle.buffer_reader.specs.Steps.{Reading, found, next, takeFlag}
 use Rattle.range_decoder.specs.Decoder.{symbolStep}
 use Rattle.range_decoder.specs.declared.DecoderState.{DecoderState}
 use Rattle.coding.specs.declared.Refusal.{Refusal}

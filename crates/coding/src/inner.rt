@@ -4,7 +4,7 @@ ghost use mathlib.Core.Bool.{true, cond};
 ghost use Prim.Native.Nat.{_+_, _*_, _≤_};
 ghost use lib.ListN.{length};
 ghost use Rattle.common.specs.Tables.{rowPasses, rowAt};
-ghost use Rattle.buffer_reader.specs.Reader.{takeFlag};
+ghost use Rattle.buffer_reader.specs.Steps.{takeFlag};
 ghost use Rattle.buffer_reader.specs.Reads.{replyOf as bufferReply};
 ghost use Rattle.range_decoder.specs.Decoder.{rangePasses, startDecoder, replyOf as codecReply};
 ghost use Rattle.coding.specs.Coding.{refusalOf, symbolBy};

@@ -11,9 +11,8 @@ use lib.ListN.{length, getD}
 use Rattle.common.specs.Reply.{Step, accepted, wrongLength, headPastEnd, noTailRoom, lowBeyondLimit}
 use Rattle.common.specs.Tables.{rowPasses}
 use Rattle.common.proofs.Replies.{accepted-same, then-split, given-split, within-split}
-use Rattle.buffer_reader.specs.Reader.{takeFlag}
 use Rattle.buffer_reader.specs.Reads.{takeByte, takeBit, bitBeyond}
-use Rattle.buffer_reader.specs.Steps.{next, found, asNumber}
+use Rattle.buffer_reader.specs.Steps.{next, found, asNumber, takeFlag}
 use Rattle.buffer_reader.specs.declared.Cursor.{Cursor}
 use Rattle.range_decoder.specs.Decoder.{unitOf, owner, narrowed, appendByte, renormalised, Decoded, symbolStep}
 use Rattle.range_decoder.specs.declared.DecoderState.{DecoderState}

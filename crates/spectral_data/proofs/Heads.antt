@@ -10,9 +10,8 @@ use lib.Dec.{ltb}
 use lib.ListN.{length, getD}
 use Rattle.common.specs.Reply.{Step, accepted, wrongLength, noTailRoom}
 use Rattle.common.proofs.Replies.{accepted-same, then-split, given-split, within-split}
-use Rattle.buffer_reader.specs.Reader.{takeFlag}
 use Rattle.buffer_reader.specs.Reads.{takeBit, bitBeyond}
-use Rattle.buffer_reader.specs.Steps.{asNumber}
+use Rattle.buffer_reader.specs.Steps.{asNumber, takeFlag}
 use Rattle.buffer_reader.specs.declared.Cursor.{Cursor}
 use Rattle.range_decoder.specs.declared.DecoderState.{DecoderState}
 use Rattle.sending.proofs.Tracing.{traced-symbol}

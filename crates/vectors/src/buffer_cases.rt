@@ -20,12 +20,13 @@ pub(crate) fn cursor(n: [usize; 24]) -> Cursor {
 // Each read goes through the reader that holds the frame, and so through the cursor's own read.
 pub(crate) fn read(kind: u8, n: [usize; 24], buf: &[u8]) -> [usize; 24] {
     let at = cursor(n);
-    match kind {
-        1 => reached(at, forms::inner::read_by(buf, at, Read::Byte)),
-        2 => reached(at, forms::inner::read_by(buf, at, Read::Three)),
-        3 => reached(at, forms::inner::read_by(buf, at, Read::Bits(n[2]))),
-        _ => reached(at, forms::inner::read_by(buf, at, Read::Bit)),
-    }
+    let which = match kind {
+        1 => Read::Byte,
+        2 => Read::Three,
+        3 => Read::Bits(n[2]),
+        _ => Read::Bit,
+    };
+    reached(at, forms::inner::read_by(buf, at, which))
 }
 
 // A refused read has to leave the reader where it was: if not, the answer is none that is expected.
