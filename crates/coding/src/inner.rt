@@ -1,9 +1,9 @@
 // A symbol and a tail bit of a frame whose length has been judged: nothing but 9, 10 and 11 is left to refuse.
 ghost use mathlib.Core.Path.{_≡_};
 ghost use mathlib.Core.Bool.{true, cond};
-ghost use Prim.Native.Nat.{_+_, _*_, _≤_};
-ghost use lib.ListN.{length};
-ghost use Rattle.common.specs.Tables.{rowPasses, rowAt};
+ghost use Prim.Native.Nat.{_+_, _≤_};
+ghost use lib.ListN.{length, take, drop};
+ghost use Rattle.common.specs.Tables.{rowPasses};
 ghost use Rattle.buffer_reader.specs.Steps.{takeFlag};
 ghost use Rattle.buffer_reader.specs.Reads.{replyOf as bufferReply};
 ghost use Rattle.range_decoder.specs.Decoder.{rangePasses, startDecoder, replyOf as codecReply};
@@ -69,19 +69,18 @@ pub fn start(buf: &[u8], at: Cursor) -> StartMet
     }
 }
 
-// A symbol by a row of a part of the table set.
+// A symbol by a row of a part of the table set. Where the row begins is the caller's to reckon, who knows the width as a number.
 pub fn symbol(
     state: DecoderState,
     buf: &[u8],
     at: Cursor,
     part: &[u16],
+    first: usize,
     width: usize,
-    row: usize,
 ) -> SymbolMet
-    requires { ⌜ (length (now buf) ≤ 65535) × (rangePasses (state .range) ≡ true) × (row * width + width ≤ length (now part)) × (rowPasses (rowAt width row (now part)) ≡ true) ⌝ }
-    ensures { λ r. ⌜ symbolMetOf r ≡ symbolBy (rowAt width row (now (part .entry))) state (now (buf .entry)) at ⌝ }
+    requires { ⌜ (length (now buf) ≤ 65535) × (rangePasses (state .range) ≡ true) × (first + width ≤ length (now part)) × (rowPasses (take width (drop first (now part))) ≡ true) ⌝ }
+    ensures { λ r. ⌜ symbolMetOf r ≡ symbolBy (take width (drop first (now (part .entry)))) state (now (buf .entry)) at ⌝ }
 {
-    let first = row * width;
     let end = first + width;
     match range_decoder::inner::ac_decode(state, buf, at, &part[first..end]) {
         SymbolRead::Symbol(k, next_state, next) => SymbolMet::Symbol(k, next_state, next),

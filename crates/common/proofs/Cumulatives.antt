@@ -6,7 +6,8 @@ use mathlib.Core.Bool.{true}
 use mathlib.Core.List.{List, [], _∷_, _++_}
 use native.Mathlib.Omega.{arith}
 use native.Mathlib.Numerals.{add-one}
-use native.Mathlib.Nat.{zero-add, add-zero, add-assoc, zero-mul, suc-mul, add-comm, mul-add, mul-comm, mul-le-mul-left}
+use mathlib.Core.Logic.{⊎-elim}
+use native.Mathlib.Nat.{zero-add, add-zero, add-assoc, zero-mul, suc-mul, add-comm, mul-add, mul-comm, mul-le-mul-left, le-of-eq, le-of-lt, eq-or-lt-of-le}
 use borrow.Author.Tests.{eqb-true, leb-true}
 use lib.Dec.{leb, eqb}
 use lib.ListN.{length, getD, take, drop}
@@ -80,11 +81,22 @@ module _ (row : List ℕ) (passed : rowPasses row ≡ true) where
       let v : cumulative row j + (k - j) ≤ cumulative row k = rw e at u in
       omega arith
 
+  -- and do not fall
+  pub cumulative-order : (j k : ℕ) → j ≤ k → k ≤ length row → cumulative row j ≤ cumulative row k
+  cumulative-order j k l h = ⊎-elim (λ e. le-of-eq (ap (cumulative row) e)) (λ less. le-of-lt (cumulative-rises j k less h)) (eq-or-lt-of-le l)
+
   pub cumulative-bound : (k : ℕ) → k ≤ length row → cumulative row k ≤ 1024
   cumulative-bound k h =
       let u : cumulative row k + (length row - k) ≤ cumulative row (k + (length row - k)) = rising k (length row - k) (omega arith) in
       let e : k + (length row - k) ≡ length row = omega arith in
       let v : cumulative row k + (length row - k) ≤ cumulative row (length row) = rw e at u in
+      omega (arith, cumulative-total)
+
+  -- with a frequency of at least 1 to each, it has at most 1,024 symbols
+  pub row-short : length row ≤ 1024
+  row-short =
+      let u : cumulative row 0 + length row ≤ cumulative row (0 + length row) = rising 0 (length row) (omega arith) in
+      let v : cumulative row 0 + length row ≤ cumulative row (length row) = rw zero-add at u in
       omega (arith, cumulative-total)
 
   -- each symbol has a share of the 1,024

@@ -56,7 +56,7 @@ pub zeros-most : (n : ℕ) → 0 < n → n < 2 ^ 32 → leadingZeros 32 n ≤ 31
 zeros-most n pos fits = omega (arith, leading-top 32 n pos fits .1)
 
 -- a smaller power of two has a smaller exponent
-power-below : (i j : ℕ) → 2 ^ i < 2 ^ j → i < j
+pub power-below : (i j : ℕ) → 2 ^ i < 2 ^ j → i < j
 power-below i j l = lt-of-not-le (λ h. not-le-of-lt l (pow-mono h))
 
 -- between two symbols the floor of the range's logarithm is 16 to 23

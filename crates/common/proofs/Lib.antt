@@ -4,6 +4,7 @@ pub mod Rows
 pub mod Fills
 pub mod Sets
 pub mod Cumulatives
+pub mod Halves
 pub mod Replies
 pub mod Unique
 pub mod Lasts

@@ -1,17 +1,16 @@
 -- The cumulatives of a row that passes rise from 0 to 1,024, so the parts of its symbols lie one behind the other and fill what
 -- is below 1024*r: every low there has one owner, and the definition's last symbol is that owner. Assumes nothing.
 use Prim.Native.Nat.{ℕ, zero, suc, _+_, _*_, _≤_, _<_}
-use mathlib.Core.Path.{_≡_, refl, sym, ap, _∙_}
+use mathlib.Core.Path.{_≡_, refl, sym, _∙_}
 use mathlib.Core.Bool.{Bool, true, false}
 use mathlib.Core.List.{List}
-use mathlib.Core.Logic.{⊎-elim}
 use native.Mathlib.Omega.{arith}
-use native.Mathlib.Nat.{mul-add, mul-comm, mul-le-mul-left, le-of-eq, le-of-lt, eq-or-lt-of-le}
+use native.Mathlib.Nat.{mul-add, mul-comm, mul-le-mul-left}
 use borrow.Author.Tests.{le-leb, lt-leb, ltb-true, ltb-false}
 use lib.Dec.{leb, ltb}
 use lib.ListN.{length, getD}
 use Rattle.common.specs.Tables.{rowPasses, cumulative}
-use Rattle.common.proofs.Cumulatives.{cumulative-start, cumulative-next, cumulative-rises, cumulative-total, part-within}
+use Rattle.common.proofs.Cumulatives.{cumulative-start, cumulative-next, cumulative-order, cumulative-total, part-within}
 use Rattle.common.proofs.Lasts.{last-is}
 use Rattle.range_decoder.specs.Decoder.{owner}
 use Rattle.range_decoder.specs.Theory.{Owns}
@@ -30,12 +29,7 @@ module _ (row : List ℕ) (passed : rowPasses row ≡ true) where
   -- what a symbol owns lies below the parts of all behind it
   below-later : (r low j k : ℕ) → Owns r low row k → k < j → j < length row → low < r * cumulative row j
   below-later r low j k o l h =
-      let after : k + 1 ≤ j = omega arith in
-      let rises : cumulative row (k + 1) ≤ cumulative row j =
-      ⊎-elim
-      (λ e. le-of-eq (ap (cumulative row) e))
-      (λ less. le-of-lt (cumulative-rises row passed (k + 1) j less (omega arith)))
-      (eq-or-lt-of-le after) in
+      let rises : cumulative row (k + 1) ≤ cumulative row j = cumulative-order row passed (k + 1) j (omega arith) (omega arith) in
       omega (arith, part-end r row k (o .there), mul-le-mul-left r rises, o .ends)
 
   -- the owner is the last symbol whose part begins at or below low

@@ -1,62 +1,48 @@
--- A search from the first symbol on: each candidate's part begins where the last one's ended, and the one that ends above low is
--- the owner. Below 1024*r it is found before the row ends. Assumes nothing.
-use Prim.Native.Nat.{ℕ, _+_, _*_, _≤_, _<_}
+-- When one symbol is left of a search it is the owner, its part is from where it begins to where the next one does, and of 17 symbols
+-- at most five products were made. Assumes nothing.
+use Prim.Native.Nat.{ℕ, _+_, _-_, _*_, _^_, _≤_, _<_}
 use mathlib.Core.Path.{_≡_, refl, ap, _∙_}
 use mathlib.Core.Bool.{true}
 use mathlib.Core.List.{List}
-use mathlib.Core.Logic.{⊎-elim}
 use native.Mathlib.Omega.{arith}
-use native.Mathlib.Nat.{mul-comm, mul-zero, eq-or-lt-of-le}
 use lib.ListN.{length, getD}
 use Rattle.common.specs.Tables.{rowPasses, cumulative}
-use Rattle.common.proofs.Cumulatives.{cumulative-start, cumulative-total, part-within}
+use Rattle.common.proofs.Cumulatives.{cumulative-next, cumulative-bound}
+use Rattle.common.proofs.Halves.{Among}
 use Rattle.range_decoder.specs.Decoder.{owner}
 use Rattle.range_decoder.proofs.Owners.{part-end, owns-owner}
 
--- where the search stands: a symbol's part that does not begin above low
-pub record Candidate (row : List ℕ) (r low symbol base width : ℕ) : Type 0 where
-  pub there : symbol < length row
-  pub base-is : base ≡ r * cumulative row symbol
-  pub width-is : width ≡ r * getD row symbol 0
-  pub starts : base ≤ low
+-- a row of 17 symbols takes five products at most
+pub five-of-17 : (row : List ℕ) (products : ℕ) → length row ≡ 17 → ((k : ℕ) → length row ≤ 2 ^ k → products ≤ k) → products ≤ 5
+five-of-17 row products e most = most 5 (omega arith)
 
-module _ (row : List ℕ) (passed : rowPasses row ≡ true) (r low : ℕ) where
-  pub first-candidate : (width : ℕ) → 0 < length row → width ≡ r * getD row 0 0 → Candidate row r low 0 0 width
-  first-candidate width some e =
-      record {
-        there = some;
-        base-is = rw (cumulative-start row, mul-zero r) refl;
-        width-is = e;
-        starts = omega arith;
-      }
+-- frequencies added: one brings a cumulative to the next, and so many behind so many to the one behind both
+pub sum-one : (row : List ℕ) (at x : ℕ) → at < length row → x ≡ getD row at 0 → cumulative row at + x ≡ cumulative row (at + 1)
+sum-one row at x there e = rw (cumulative-next row at there, e) refl
 
-  -- what a candidate's end is
-  pub candidate-end : (k base width : ℕ) → Candidate row r low k base width → base + width ≡ r * cumulative row (k + 1)
-  candidate-end k base width c = omega (arith, part-end r row k (c .there), c .base-is, c .width-is)
+pub sum-join : (row : List ℕ) (at m n x y : ℕ) → cumulative row at + x ≡ cumulative row (at + m) → cumulative row (at + m) + y ≡ cumulative row (at + m + n) → cumulative row at + (x + y) ≡ cumulative row (at + (m + n))
+sum-join row at m n x y first second =
+    let same : at + (m + n) ≡ at + m + n = omega arith in
+    rw same (omega arith)
 
-  pub candidate-within : (k base width : ℕ) → Candidate row r low k base width → base + width ≤ 1024 * r
-  candidate-within k base width c = omega (arith, part-within row passed r k (c .there), c .base-is, c .width-is)
+-- and they are no more than the whole
+pub sum-most : (row : List ℕ) (at n x : ℕ) → rowPasses row ≡ true → at + n ≤ length row → cumulative row at + x ≡ cumulative row (at + n) → x ≤ 1024
+sum-most row at n x passed within e = omega (arith, cumulative-bound row passed (at + n) within)
 
-  -- a part that ends at or below low is not the row's last
-  pub next-there : (k base width : ℕ) → low < 1024 * r → Candidate row r low k base width → base + width ≤ low → k + 1 < length row
-  next-there k base width limit c over =
-      let most : k + 1 ≤ length row = omega (arith, c .there) in
-      ⊎-elim
-      (λ last. let whole : r * cumulative row (k + 1) ≡ r * 1024 = ap (λ (j : ℕ). r * cumulative row j) last ∙ ap (λ (t : ℕ). r * t) (cumulative-total row passed) in absurd (omega (arith, candidate-end k base width c, mul-comm r 1024)))
-      (λ less. less)
-      (eq-or-lt-of-le most)
+-- one symbol is left
+module _ (row : List ℕ) (passed : rowPasses row ≡ true) (r low symbol left sum base end products : ℕ) (a : Among row r low symbol left sum base end products) (one : left ≡ 1) where
+  there : symbol < length row
+  there = omega (arith, a .there)
 
-  pub next-candidate : (k base width width′ : ℕ) → low < 1024 * r → Candidate row r low k base width → base + width ≤ low → width′ ≡ r * getD row (k + 1) 0 → Candidate row r low (k + 1) (base + width) width′
-  next-candidate k base width width′ limit c over e =
-      record {
-        there = next-there k base width limit c over;
-        base-is = candidate-end k base width c;
-        width-is = e;
-        starts = over;
-      }
+  begin : base ≡ r * cumulative row symbol
+  begin = a .base-is ∙ ap (λ (n : ℕ). r * n) (a .sum-is)
 
-  -- the candidate that ends above low is the owner
-  pub candidate-owns : (k base width : ℕ) → Candidate row r low k base width → low < base + width → k ≡ owner r low row
-  candidate-owns k base width c over =
-      let o = owns-owner row passed r low k (record { there = c .there; starts = omega (arith, c .base-is, c .starts); ends = omega (arith, c .base-is, c .width-is) }) in
-      rw o refl
+  ending : end ≡ r * cumulative row symbol + r * getD row symbol 0
+  ending =
+      let place : a .place ≡ symbol + 1 = omega (arith, a .later, a .near) in
+      rw (← part-end r row symbol there, ← place) (a .end-is)
+
+  pub last-found : (symbol ≡ owner r low row) × (base ≡ r * cumulative row symbol) × (end - base ≡ r * getD row symbol 0)
+  last-found =
+      let o = owns-owner row passed r low symbol (record { there = there; starts = omega (arith, begin, a .starts); ends = omega (arith, ending, a .ends) }) in
+      (rw o refl, begin, omega (arith, begin, ending))

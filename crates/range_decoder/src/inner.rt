@@ -64,7 +64,7 @@ pub fn ac_decode(state: DecoderState, buf: &[u8], at: Cursor, row: &[u16]) -> Sy
     if limit <= state.low {
         return SymbolRead::Refused(CodecError::LowBeyondLimit(state.low, limit));
     }
-    let owned = crate::row::search(unit, state.low, row);
+    let owned = crate::row::search(unit, limit, state.low, row);
     let part = DecoderState {
         low: state.low - owned.base,
         range: owned.width,

@@ -111,7 +111,7 @@ fn read_turn(
     ensures { λ r. ⌜ turnOf r ≡ turnBy (now (lookup .entry)) (now (frequencies .entry)) lsb p start level state (now (buf .entry)) at ⌝ }
 {
     let row = contexts::inner::row(lookup, start, level);
-    match coding::inner::symbol(state, buf, at, frequencies, 17, row) {
+    match coding::inner::symbol(state, buf, at, frequencies, row * 17, 17) {
         SymbolMet::Symbol(k, after, next) => {
             if k < 16 {
                 return Turn::Last(k, after, next);

@@ -60,7 +60,7 @@ fn read_indices(
     let mut c = at;
     let mut k: usize = 0;
     while k < order {
-        match coding::inner::symbol(s, buf, c, coefficients, 17, k) {
+        match coding::inner::symbol(s, buf, c, coefficients, k * 17, 17) {
             SymbolMet::Symbol(index, next_state, next) => {
                 indices[8 * filter + k] = index;
                 s = next_state;
@@ -93,7 +93,7 @@ fn read_filter(
     if flag != 1 {
         return FilterRead::Order(0, state, at);
     }
-    match coding::inner::symbol(state, buf, at, orders, 8, weighting) {
+    match coding::inner::symbol(state, buf, at, orders, weighting * 8, 8) {
         SymbolMet::Symbol(k, next_state, next) => {
             read_indices(next_state, buf, next, coefficients, filter, k + 1, indices)
         }

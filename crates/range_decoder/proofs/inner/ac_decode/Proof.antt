@@ -17,10 +17,10 @@ returns : tie.Need-returns
 returns c = sym (step-beyond (c .before .before .before .before .before .args .state) (c .before .before .before .before .before .args .row .now) (c .before .before .before .before .before .args .buf .now) (c .before .before .before .before .before .args .at) (omega (arith, c .if1 .taken)))
 
 search-requires : tie.Need-search-requires
-search-requires c κs = (omega (arith, range-limits (c .before .before .before .before .before .args .state .range) (c .before .before .before .before .before .pre .0) .1), omega (arith, c .if1 .left), c .before .before .before .before .before .pre .1)
+search-requires c κs = (omega (arith, range-limits (c .before .before .before .before .before .args .state .range) (c .before .before .before .before .before .pre .0) .1), refl, omega (arith, c .if1 .left), c .before .before .before .before .before .pre .1)
 
 found-known : (c : tie.After-search) → Found (c .before .before .before .before .before .before .args .state) (c .before .before .before .before .before .before .args .row .now) (c .search .result .symbol) (c .search .result .base) (c .search .result .width)
-found-known c = record { symbol = c .search .ensures .0; base-is = c .search .ensures .1 .0; width-is = c .search .ensures .1 .1 }
+found-known c = record { symbol = c .search .ensures .0; base-is = c .search .ensures .1 .0; width-is = c .search .ensures .1 .1 .0 }
 
 part-known : (c : tie.After-struct-known4) → (c .before .before .search .result .base ≤ c .before .before .before .before .before .before .before .before .args .state .low) × Below (record { low = c .before .before .before .before .before .before .before .before .args .state .low - c .before .before .search .result .base; range = c .before .before .search .result .width })
 part-known c =

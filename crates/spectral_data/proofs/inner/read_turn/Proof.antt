@@ -17,6 +17,9 @@ use Rattle.spectral_data.proofs.inner.read_turn.Tie as tie
 row-requires : tie.Need-row-requires
 row-requires c κs = search needs
 
+mul-symbol : tie.Need-mul-symbol
+mul-symbol c = omega (arith, c .row .ensures, row-low (c .before .before .before .before .args .lookup .now) (c .before .before .before .before .pre .0 .looked) (c .before .before .before .before .args .start) (c .before .before .before .before .args .level))
+
 symbol-requires : tie.Need-symbol-requires
 symbol-requires c κs =
     let a = c .before .before .before .before .args in
@@ -64,6 +67,7 @@ read-turn-spec =
     tie.close
     (tie.spec
     row-requires
+    mul-symbol
     symbol-requires
     enum-known-k
     returns

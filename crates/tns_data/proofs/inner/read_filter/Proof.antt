@@ -15,6 +15,9 @@ returns c =
     let a = c .before .before .before .before .args in
     sym (filter-absent (a .orders .now) (a .coefficients .now) (a .weighting) (a .filter) (a .flag) (a .state) (a .buf .now) (a .at) (a .indices .now) (8 * a .filter) (c .if1 .taken))
 
+mul-symbol : tie.Need-mul-symbol
+mul-symbol c = search needs
+
 symbol-requires : tie.Need-symbol-requires
 symbol-requires c κs =
     let a = c .before .before .before .before .args in
@@ -57,6 +60,7 @@ read-filter-spec =
     tie.close
     (tie.spec
     returns
+    mul-symbol
     symbol-requires
     enum-known-k
     add-read-indices

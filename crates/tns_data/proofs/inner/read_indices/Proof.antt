@@ -33,6 +33,9 @@ loop-holds c =
     let p = c .before .before .pre in
     (omega arith, p .5, p .1, indices-start (a .coefficients .now) (a .filter) (a .buf .now) (8 * a .filter) (a .order) (a .indices .now) (a .state) (a .at))
 
+mul-symbol : tie.Need-mul-symbol Inv-loop μ-loop
+mul-symbol c = omega arith
+
 symbol-requires : tie.Need-symbol-requires Inv-loop μ-loop
 symbol-requires c κs =
     let cs = c .before .before .before .before .args .coefficients .now in
@@ -97,6 +100,7 @@ read-indices-spec =
     Inv-loop
     μ-loop
     loop-holds
+    mul-symbol
     symbol-requires
     enum-known-index
     mul-indices
