@@ -46,3 +46,8 @@ module _ (row : List ℕ) (passed : rowPasses row ≡ true) (r low symbol left s
   last-found =
       let o = owns-owner row passed r low symbol (record { there = there; starts = omega (arith, begin, a .starts); ends = omega (arith, ending, a .ends) }) in
       (rw o refl, begin, omega (arith, begin, ending))
+
+  -- as many products were counted as the row's length needs, but for its last symbol
+  pub last-counted : (1 < length row → 1 ≤ products) × (symbol + 1 < length row → length row ≤ 2 ^ products)
+  last-counted =
+      (λ more. a .some (omega arith), λ behind. let whole : length row ≤ 1 * 2 ^ products = rw one at (a .needed behind) in omega arith)

@@ -193,13 +193,14 @@ fn last_left(unit: u32, limit: u32, low: u32, row: &[u16]) -> Rest
 }
 
 // The owner, where its part of the range begins, how wide that is, and how many products it took: of n symbols at most ceil(log2 n),
-// the least k with n at most 2^k.
+// the least k with n at most 2^k; just so many for every symbol but the last.
 pub(crate) fn search(unit: u32, limit: u32, low: u32, row: &[u16]) -> Owned
     requires { ⌜ (unit ≤ 16383) × (limit ≡ 1024 * unit) × (low < limit) × (rowPasses (now row) ≡ true) ⌝ }
     ensures symbol { λ r. ⌜ r .symbol ≡ owner unit low (now (row .entry)) ⌝ }
     ensures base { λ r. ⌜ r .base ≡ unit * cumulative (now (row .entry)) (r .symbol) ⌝ }
     ensures width { λ r. ⌜ r .width ≡ unit * getD (now (row .entry)) (r .symbol) 0 ⌝ }
     ensures products { λ r. ⌜ ((k : ℕ) → length (now (row .entry)) ≤ 2 ^ k → r .products ≤ k) ⌝ }
+    ensures counted { λ r. ⌜ (1 < length (now (row .entry)) → 1 ≤ r .products) × (r .symbol + 1 < length (now (row .entry)) → length (now (row .entry)) ≤ 2 ^ r .products) ⌝ }
 {
     let rest = last_left(unit, limit, low, row);
     Owned {
