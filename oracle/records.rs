@@ -33,6 +33,12 @@ pub fn refused(number: usize, values: &[usize]) -> Answer {
     answer(number, values, &[])
 }
 
+// Refusal 9 by the tail cursor at which the Rust's reader stands, of which the Rust itself tells the bit index alone.
+pub fn no_tail_room(width: usize, bit_index: usize, tail: usize) -> Answer {
+    hold(bit_index == tail % 8, "a bit index that is not the tail cursor's, modulo 8");
+    refused(9, &[width, tail])
+}
+
 pub fn accepted(values: &[usize]) -> Answer {
     answer(ACCEPTED, values, &[])
 }
@@ -40,6 +46,12 @@ pub fn accepted(values: &[usize]) -> Answer {
 // With the bytes that the call leaves.
 pub fn written(values: &[usize], left: &[u8]) -> Answer {
     answer(ACCEPTED, values, left)
+}
+
+// Heads and tails past the domain of comparison, where the Rust's sums wrap: at these tails no buffer has room.
+pub fn beyond() -> Vec<(usize, usize)> {
+    let tails = [1 << 20, 1 << 32, usize::MAX - 7, usize::MAX];
+    tails.iter().flat_map(|tail| [(0, *tail), (usize::MAX, *tail)]).collect()
 }
 
 // Splitmix64: the same numbers from a seed on every machine.

@@ -2,7 +2,7 @@
 // The limits below only aim the cases; every answer is the Rust's, but where it panics.
 
 use crate::lc3::decoder::buffer_reader::{BufferReader, BufferReaderError};
-use crate::records::{accepted, hold, refused, Answer, OneOfEach, Records, Rng};
+use crate::records::{accepted, beyond, hold, no_tail_room, refused, Answer, OneOfEach, Records, Rng};
 
 const WIDTHS: [usize; 11] = [1, 2, 3, 4, 5, 6, 7, 8, 9, 24, 25];
 // the largest cursor that is compared
@@ -47,21 +47,38 @@ impl Case {
         Case { op, head, tail, buf: rng.bytes(len) }
     }
 
-    fn put(&self, out: &mut Records) {
+    // Kind and numbers.
+    fn call(&self) -> (u8, [usize; 3]) {
         let (kind, width) = match self.op {
             Op::Byte => (1, 0),
             Op::Three => (2, 0),
             Op::Bits(n) => (3, n),
             Op::Bit => (4, 0),
         };
-        out.put_said(kind, (&[self.head, self.tail, width], &self.buf), self.panics(), || self.answer());
+        (kind, [self.head, self.tail, width])
+    }
+
+    fn put(&self, out: &mut Records) {
+        let (kind, numbers) = self.call();
+        out.put_said(kind, (&numbers, &self.buf), self.panics(), || self.answer());
+    }
+
+    // Past the domain: a read of the tail is refused 9 with its cursor, whatever that is, and the Rust is not asked.
+    fn put_beyond(&self, out: &mut Records) {
+        let (kind, numbers) = self.call();
+        let width = match self.op {
+            Op::Bits(n) => n,
+            Op::Bit => 1,
+            Op::Byte | Op::Three => return,
+        };
+        out.put(kind, (&numbers, &self.buf), &refused(9, &[width, self.tail]));
     }
 
     // The Rust's own test lets one bit through whose byte is not in the buffer; document 01 refuses it.
     fn panics(&self) -> Option<Answer> {
         let (len, byte) = (self.buf.len(), self.tail / 8);
         let is_bit = matches!(self.op, Op::Bit);
-        (is_bit && self.head + byte <= len + 2 && byte >= len).then(|| refused(9, &[1, self.tail % 8]))
+        (is_bit && self.head + byte <= len + 2 && byte >= len).then(|| refused(9, &[1, self.tail]))
     }
 
     fn answer(&self) -> Answer {
@@ -79,8 +96,8 @@ impl Case {
             Ok(v) => accepted(&[head, tail, v as usize]),
             Err(BufferReaderError::ReadByteOutOfBounds(h)) => refused(10, &[h]),
             Err(BufferReaderError::ReadU24OutOfBounds(h)) => refused(10, &[h]),
-            Err(BufferReaderError::BigEndianBitReaderReadUsizeNumBitsOutOfRange(n, b)) => refused(9, &[n, b]),
-            Err(BufferReaderError::BigEndianBitReaderReadBoolOutOfRange(b)) => refused(9, &[1, b]),
+            Err(BufferReaderError::BigEndianBitReaderReadUsizeNumBitsOutOfRange(n, b)) => no_tail_room(n, b, tail),
+            Err(BufferReaderError::BigEndianBitReaderReadBoolOutOfRange(b)) => no_tail_room(1, b, tail),
         }
     }
 
@@ -211,7 +228,7 @@ pub fn run(out: &mut Records, seed: u64, count: usize) {
 }
 
 // A new reader in every call; one case of each class that the short lengths have; some at the limits of longer frames and
-// at the far cursors.
+// at the far cursors; and past the domain.
 pub fn sample(out: &mut Records) {
     let rng = &mut Rng::new(0);
     let pick = &mut Rng::new(1);
@@ -227,4 +244,7 @@ pub fn sample(out: &mut Records) {
     limits(rng, 20, |case| one_in(8, case));
     limits(rng, 400, |case| one_in(200, case));
     far(rng, 3, |case| one_in(8, case));
+    for at in beyond() {
+        all_ops().into_iter().for_each(|op| Case::new(rng, op, 20, at).put_beyond(out));
+    }
 }

@@ -2,7 +2,7 @@
 // The limits below only aim the cases; every answer is the Rust's, but where it panics.
 
 use crate::lc3::encoder::buffer_writer::{door, BufferWriter};
-use crate::records::{self, refused, Answer, OneOfEach, Records, Rng};
+use crate::records::{self, beyond, refused, Answer, OneOfEach, Records, Rng};
 
 const WIDTHS: [usize; 11] = [1, 2, 3, 4, 5, 6, 7, 8, 9, 24, 25];
 // the largest cursor that is compared
@@ -85,17 +85,30 @@ impl Case {
         Case { op, head, tail, value: op.value(rng), buf: rng.bytes(len) }
     }
 
-    fn put(&self, out: &mut Records) {
+    // Kind and numbers.
+    fn call(&self) -> (u8, [usize; 4]) {
         let (kind, width) = self.op.kind();
-        let numbers = [self.head, self.tail, width, self.value as usize];
+        (kind, [self.head, self.tail, width, self.value as usize])
+    }
+
+    fn put(&self, out: &mut Records) {
+        let (kind, numbers) = self.call();
         out.put_said(kind, (&numbers, &self.buf), self.panics(), || self.answer());
+    }
+
+    // Past the domain: a write at the tail is refused 9 with its cursor, whatever that is, and the Rust is not asked.
+    fn put_beyond(&self, out: &mut Records) {
+        let (kind, numbers) = self.call();
+        if let Some(width) = self.op.tail_bits() {
+            out.put(kind, (&numbers, &self.buf), &refused(9, &[width, self.tail]));
+        }
     }
 
     // The Rust panics at every write that has no room.
     fn panics(&self) -> Option<Answer> {
         let len = self.buf.len();
         match self.op.tail_bits() {
-            Some(n) => (self.tail + n > 8 * len).then(|| refused(9, &[n, self.tail % 8])),
+            Some(n) => (self.tail + n > 8 * len).then(|| refused(9, &[n, self.tail])),
             None => (self.head >= len).then(|| refused(10, &[self.head])),
         }
     }
@@ -204,7 +217,7 @@ pub fn run(out: &mut Records, seed: u64, count: usize) {
 }
 
 // A new writer in every call; of the short buffers one case of each class, by length and by bit index; then some of
-// longer ones and far cursors.
+// longer ones and far cursors; and past the domain.
 pub fn sample(out: &mut Records) {
     let rng = &mut Rng::new(0);
     let pick = &mut Rng::new(1);
@@ -230,4 +243,7 @@ pub fn sample(out: &mut Records) {
     limits(rng, 60, |case| one_in(8, case));
     limits(rng, 400, |case| one_in(20, case));
     far(rng, 3, |case| one_in(6, case));
+    for at in beyond() {
+        all_ops().into_iter().for_each(|op| Case::new(rng, op, 20, at).put_beyond(out));
+    }
 }

@@ -12,7 +12,7 @@ use crate::lc3::encoder::long_term_post_filter::LongTermPostFilterResult;
 use crate::lc3::encoder::spectral_noise_shaping::SnsResult;
 use crate::lc3::encoder::spectral_quantization::SpectralQuantizationResult;
 use crate::lc3::encoder::temporal_noise_shaping::TnsResult;
-use crate::records::{accepted, hold, refused, Answer, OneOfEach, Records, Rng};
+use crate::records::{accepted, beyond, hold, no_tail_room, refused, Answer, OneOfEach, Records, Rng};
 
 // the shortest frame
 const SHORT: usize = 20;
@@ -255,16 +255,16 @@ impl Walk<'_> {
     fn field(&mut self, width: usize) -> usize {
         let (byte, b) = (self.tail / 8, self.tail % 8);
         let is_past = width > 0 && bytes_of(width, b) + self.head + byte > self.frame.len();
-        if self.refuse(is_past, 9, &[width, b]) {
+        if self.refuse(is_past, 9, &[width, self.tail]) {
             return 0;
         }
         self.value(width)
     }
 
     fn bit(&mut self) -> usize {
-        let (byte, b, len) = (self.tail / 8, self.tail % 8, self.frame.len());
+        let (byte, len) = (self.tail / 8, self.frame.len());
         let (is_past, is_outside, goes_on) = (self.head + byte > len + 2, byte >= len, self.refusal.is_none());
-        if self.refuse(is_past || is_outside, 9, &[1, b]) {
+        if self.refuse(is_past || is_outside, 9, &[1, self.tail]) {
             self.panics |= goes_on && !is_past;
             return 0;
         }
@@ -365,8 +365,8 @@ impl Read {
             Err(LastNonZeroTupleGreaterThanYLen(lastnz, ne)) => refused(6, &[lastnz, ne]),
             Err(PlcTriggerSns1OutOfRange(joint)) => refused(7, &[joint]),
             Err(PlcTriggerSns2OutOfRange(joint)) => refused(8, &[joint]),
-            Err(BufferReaderError(BigEndianBitReaderReadUsizeNumBitsOutOfRange(n, b))) => refused(9, &[n, b]),
-            Err(BufferReaderError(BigEndianBitReaderReadBoolOutOfRange(b))) => refused(9, &[1, b]),
+            Err(BufferReaderError(BigEndianBitReaderReadUsizeNumBitsOutOfRange(n, b))) => no_tail_room(n, b, tail),
+            Err(BufferReaderError(BigEndianBitReaderReadBoolOutOfRange(b))) => no_tail_room(1, b, tail),
             Err(other) => panic!("the side information has no such refusal: {:?}", other),
         }
     }
@@ -394,7 +394,7 @@ impl Write {
         let mut tail = self.at.1;
         for (width, _) in self.record.fields(self.of).into_iter().filter(|(width, _)| *width > 0) {
             if tail + width > 8 * self.frame.len() {
-                return Some(refused(9, &[width, tail % 8]));
+                return Some(refused(9, &[width, tail]));
             }
             tail += width;
         }
@@ -614,7 +614,16 @@ pub fn run(out: &mut Records, seed: u64, count: usize) {
     }
 }
 
-// Every kind of record, the limits, one case of each class where room ends, then some at random and at the far cursors.
+// Past the domain: the first field is refused 9 with its cursor, whatever that is, and the Rust is not asked.
+fn put_beyond(rng: &mut Rng, out: &mut Records, of: Config, at: (usize, usize)) {
+    let width = if of.fs_ind == 0 { of.lastnz_bits() } else { of.bandwidth_bits() };
+    let answer = refused(9, &[width, at.1]);
+    let (frame, record) = (rng.bytes(SHORT), Record::any(rng, of));
+    out.put(33, (&in_call(of, at, &[]), &frame), &answer);
+    out.put(34, (&in_call(of, at, &record.numbers()), &frame), &answer);
+}
+
+// Every kind of record, the limits, one case of each class where room ends, then some at random, at the far cursors and past the domain.
 pub fn sample(out: &mut Records) {
     let rng = &mut Rng::new(0);
     let pick = &mut Rng::new(1);
@@ -669,4 +678,7 @@ pub fn sample(out: &mut Records) {
             case.put(out)
         }
     });
+    for (at, of) in beyond().into_iter().zip(Config::all()) {
+        put_beyond(rng, out, of, at);
+    }
 }

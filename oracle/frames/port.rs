@@ -442,5 +442,21 @@ pub fn hand(tally: &mut Tally) -> Result<(), String> {
         }
         tally.add("checked by hand");
     }
+    cursor(&set, tally)
+}
+
+// The frame of request P6, by the flat set: 9 tells the tail cursor before the bit that is missing, in both readings.
+#[cfg(not(rust_alone))]
+fn cursor(set: &Lent, tally: &mut Tally) -> Result<(), String> {
+    let frame: [u8; 20] = [0, 0, 0, 15, 251, 255, 131, 114, 164, 38, 246, 0, 0, 18, 59, 250, 0, 0, 0, 7];
+    for reading in [0, 1] {
+        let mut to = Slices::new(80, 1);
+        let said = call([0, 0, reading], set, &frame, &mut to);
+        let answer = answer_of(said, &to, 20)?;
+        if answer != Answer::Refused(Refused::new(9, &[1, 82], &[6, 7, 12])) {
+            return Err(format!("the frame of request P6 in reading {}: {:?}", reading, answer));
+        }
+        tally.add("checked by hand");
+    }
     Ok(())
 }

@@ -26,7 +26,7 @@ pub fn read(case: &Case) -> Answer {
     returned(case).unwrap_or_else(|(head, tail)| {
         let length = case.frame.len();
         assert!(head + tail / 8 <= length + 2 && tail / 8 >= length, "the Rust panics on {:?}", case);
-        Answer::Refused(Refused::new(9, &[1, tail % 8], &[6]))
+        Answer::Refused(Refused::new(9, &[1, tail], &[6]))
     })
 }
 
@@ -37,7 +37,19 @@ pub fn returned(case: &Case) -> Result<Answer, (usize, usize)> {
     CAUGHT.store(true, Ordering::Relaxed);
     let answer = catch_unwind(AssertUnwindSafe(|| by_rust(case, &mut reader, &mut lines)));
     CAUGHT.store(false, Ordering::Relaxed);
-    answer.map_err(|_| (reader.get_head_byte_cursor(), reader.get_tail_bit_cursor()))
+    let (head, tail) = (reader.get_head_byte_cursor(), reader.get_tail_bit_cursor());
+    answer.map(|answer| with_cursor(answer, tail)).map_err(|_| (head, tail))
+}
+
+// Of refusal 9 the Rust tells the bit index. A refused read moves no cursor, so its reader stands before the field: that is the tail
+// cursor, if the bit index is it modulo 8. If not, the bit index stays, and differs.
+fn with_cursor(mut answer: Answer, tail: usize) -> Answer {
+    if let Answer::Refused(refused) = &mut answer {
+        if refused.number == 9 && refused.values[1] == tail % 8 {
+            refused.values[1] = tail;
+        }
+    }
+    answer
 }
 
 // The reading alone, for a time: whether the frame is accepted.

@@ -76,7 +76,9 @@ pub fn outcome(way: Way, case: &Case, parts: &Parts, before: &Read, frame: &[u8]
             };
             (may && is_as_written(c, before, read)).then(|| difference(before, read))
         }
-        Answer::Refused(refused) if matches!(way, Way::Anything | Way::Lows) => lacks_room(c, refused),
+        Answer::Refused(refused) if matches!(way, Way::Anything | Way::Lows) => {
+            lacks_room(c, parts, frame.len(), refused)
+        }
         Answer::Refused(_) => None,
     }
 }
@@ -90,12 +92,14 @@ fn filled(c: &Content, parts: &Parts, before: &Read, frame: &[u8]) -> Read {
     filled
 }
 
-// 9 in the step `bit`, of a pair that is there and a level that it has; or 12.
-fn lacks_room(c: &Content, refused: &Refused) -> Option<Outcome> {
+// 9 in the step `bit`, of a pair that is there and a level that it has, with a tail cursor that a head can have met by then; or 12.
+fn lacks_room(c: &Content, parts: &Parts, len: usize, refused: &Refused) -> Option<Outcome> {
     let [step, pair, level] = refused.step;
+    let [width, tail] = refused.values;
+    let is_late = (8 * (len - parts.shifts)..=8 * len).contains(&tail);
     match refused.number {
         12 if *refused == Refused::new(12, &[], &[]) => Some(Outcome::Negative),
-        9 if step == BIT && refused.values[0] == 1 && refused.values[1] < 8 && pair < c.lastnz() / 2 => {
+        9 if step == BIT && width == 1 && is_late && pair < c.lastnz() / 2 => {
             let escapes = c.escapes(pair) as usize;
             let outcome = if level < escapes { Outcome::LowMissing(pair) } else { Outcome::SignMissing(pair) };
             (level <= escapes).then_some(outcome)

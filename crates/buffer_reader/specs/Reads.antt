@@ -1,10 +1,10 @@
 -- Document 01, "Modules in port order", 1: what each read answers, at any cursor of any buffer. Sums are exact.
 use Prim.Native.Nat.{ℕ, _+_, _*_, _/_, _%_, _-_}
 use mathlib.Core.Bool.{Bool, cond, not, _&&_, _||_}
-use mathlib.Core.List.{List, [], _∷_}
+use mathlib.Core.List.{List}
 use lib.Dec.{leb, ltb, eqb}
 use lib.ListN.{length, getD}
-use Rattle.common.specs.Reply.{Reply, Answer, accepted, refused, given, reply, wrongLength, widthNotListed, noTailRoom, headPastEnd}
+use Rattle.common.specs.Reply.{Reply, Answer, accepted, refused, given, wrongLength, widthNotListed, noTailRoom, headPastEnd}
 use Rattle.buffer_reader.specs.Tail.{tailBit, field}
 use Rattle.buffer_reader.specs.declared.Cursor.{Cursor}
 use Rattle.buffer_reader.specs.declared.BufferError.{BufferError}
@@ -75,7 +75,7 @@ takeBit f c =
 abbrev pub replyOf : BufferError → Reply
 replyOf (WrongLength len) = wrongLength len
 replyOf (WidthNotListed width) = widthNotListed width
-replyOf (NoTailRoom width bitIndex) = reply 9 (width ∷ bitIndex ∷ [])
+replyOf (NoTailRoom width tail) = noTailRoom width tail
 replyOf (PastEnd head) = headPastEnd head
 
 -- what each enum of an answer says

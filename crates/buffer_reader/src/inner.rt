@@ -5,11 +5,11 @@ ghost use Rattle.buffer_reader.specs.Reads.{replyOf};
 ghost use Rattle.buffer_reader.specs.Reads.{listed as Reads·listed};
 use crate::BufferError;
 
-// Refusal 9 of a field at a tail place, for reads and writes alike: its second number is reckoned here and nowhere else.
+// Refusal 9 of a field that would begin at a tail cursor, for reads and writes alike: its numbers are chosen here and nowhere else.
 pub fn no_tail_room(num_bits: usize, tail: usize) -> BufferError
     ensures { λ r. ⌜ replyOf r ≡ noTailRoom «num_bits» tail ⌝ }
 {
-    BufferError::NoTailRoom(num_bits, tail % 8)
+    BufferError::NoTailRoom(num_bits, tail)
 }
 
 // Whether a width is listed, for reads and writes alike.

@@ -12,7 +12,7 @@ pub struct Cursor {
     pub tail: usize,
 }
 
-// Why a read or a write is refused, with the numbers of document 01.
+// Why a read or a write is refused, with the numbers of document 01; of 9, the tail cursor and not its bit index.
 pub enum BufferError {
     WrongLength(usize),
     WidthNotListed(usize),

@@ -1,8 +1,8 @@
 -- How a frame's data is read: a coding goes from the coder's state to a reading of a value and of the state behind it. And the
 -- refusals that a step can meet, "side, start, order (TNS, f), coef (f,k), symbol or bit (pair, level)".
 use Prim.Native.Nat.{ℕ}
-use mathlib.Core.List.{List, [], _∷_}
-use Rattle.common.specs.Reply.{Step, side, start, order, coef, symbol, bit, Reply, reply, headPastEnd, lowBeyondLimit, inStep, within}
+use mathlib.Core.List.{List}
+use Rattle.common.specs.Reply.{Step, side, start, order, coef, symbol, bit, Reply, noTailRoom, headPastEnd, lowBeyondLimit, inStep, within}
 use Rattle.buffer_reader.specs.Steps.{Reading, found, next, takeFlag}
 use Rattle.range_decoder.specs.Decoder.{symbolStep}
 use Rattle.range_decoder.specs.declared.DecoderState.{DecoderState}
@@ -41,7 +41,7 @@ tailBitBy s = next takeFlag (λ b. done b s)
 
 -- document 01's number and values of each refusal, and the step that met it
 abbrev pub refusalOf : Refusal → Reply
-refusalOf (NoTailRoom width bitIndex) = reply 9 (width ∷ bitIndex ∷ [])
+refusalOf (NoTailRoom width tail) = noTailRoom width tail
 refusalOf (PastEnd head) = headPastEnd head
 refusalOf (LowBeyondLimit low limit) = lowBeyondLimit low limit
 

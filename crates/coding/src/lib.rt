@@ -1,7 +1,7 @@
 // Readings that carry the coder's state. What they refuse sits inside the step that met it.
 pub mod inner;
 
-// What a step can meet: refusals 9, 10 and 11, with the numbers of document 01.
+// What a step can meet: refusals 9, 10 and 11, each with its numbers.
 pub enum Refusal {
     NoTailRoom(usize, usize),
     PastEnd(usize),

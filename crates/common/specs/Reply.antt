@@ -1,6 +1,6 @@
 -- The numbered replies of document 01, "Numbered replies": a refusal is its number with its values, and the step that met it.
 -- Every enum of an answer has a `replyOf` that says what it is here, and contracts speak by that.
-use Prim.Native.Nat.{ℕ, _%_}
+use Prim.Native.Nat.{ℕ}
 use mathlib.Core.Bool.{Bool, true, false, cond, _&&_}
 use lib.Dec.{leb}
 use mathlib.Core.List.{List, [], _∷_}
@@ -85,9 +85,9 @@ jointTooLarge25 joint = reply 7 (joint ∷ [])
 abbrev pub jointTooLarge24 : ℕ → Reply
 jointTooLarge24 joint = reply 8 (joint ∷ [])
 
--- 9: no tail room; "width, bit index", of a field at a tail place
+-- 9: no tail room; the width of a field, and by request P6 the tail cursor before it, in bits
 abbrev pub noTailRoom : ℕ → ℕ → Reply
-noTailRoom width tail = reply 9 (width ∷ (tail % 8) ∷ [])
+noTailRoom width tail = reply 9 (width ∷ tail ∷ [])
 
 -- 10: head byte, or the first three, past the end
 abbrev pub headPastEnd : ℕ → Reply

@@ -28,9 +28,14 @@ pub refused-text : refusedText 1 (lastnzTooLarge 82 80) ≡ ascii "frame 1 refus
 unfolding digits decimal spaced stepText replyText refusedText
 refused-text = refl
 
-pub step-text : refusedText 4 (inStep (bit 4 2) (noTailRoom 1 11)) ≡ ascii "frame 4 refused 9 1 3 bit 4 2\n"
+pub step-text : refusedText 1 (inStep (bit 7 12) (noTailRoom 1 82)) ≡ ascii "frame 1 refused 9 1 82 bit 7 12\n"
 unfolding digits decimal spaced stepText replyText refusedText
 step-text = refl
+
+-- a cursor is printed whole, whatever it is
+pub cursor-text : refusedText 4 (inStep (bit 4 2) (noTailRoom 1 18446744073709551615)) ≡ ascii "frame 4 refused 9 1 18446744073709551615 bit 4 2\n"
+unfolding digits decimal spaced stepText replyText refusedText
+cursor-text = refl
 
 pub indices-text : tnsLine (record { order = 2; indices = 5 ∷ 6 ∷ [] }) noFilter ≡ ascii "tns 2 5 6 0\n"
 unfolding digits decimal spaced tnsLine

@@ -55,7 +55,7 @@ pub(crate) fn refused(number: usize, first: usize, second: usize) -> [usize; 24]
 pub(crate) fn of_buffer(why: BufferError) -> [usize; 24] {
     match why {
         BufferError::WrongLength(len) => refused(2, len, 0),
-        BufferError::NoTailRoom(width, bit_index) => refused(9, width, bit_index),
+        BufferError::NoTailRoom(width, tail) => refused(9, width, tail),
         BufferError::PastEnd(head) => refused(10, head, 0),
         BufferError::WidthNotListed(width) => refused(17, width, 0),
     }

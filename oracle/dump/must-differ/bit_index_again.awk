@@ -1,0 +1,3 @@
+# refusal 9 has the bit index, not the cursor
+/ refused 9 / { $6 %= 8 }
+{ print }
