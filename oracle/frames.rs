@@ -21,7 +21,7 @@ mod records;
 #[path = "cases/rows.rs"]
 mod rows;
 
-use frames::answers::{Answer, Case, Read};
+use frames::answers::{Answer, Case, Read, Refused};
 use frames::make::Maker;
 use frames::recorded::Recordings;
 use frames::tally::Tally;
@@ -71,7 +71,11 @@ fn compare(case: &Case, set: &sets::Lent, tally: &mut Tally) -> Result<(), Strin
     if case.real && matches!(second, Answer::Refused(_)) {
         return Err(format!("a real frame, and reading 1 says {:?}", second));
     }
-    tally.count_readings(&first, &second);
+    let damaged = rust::damaged(case);
+    tally.count_readings(&first, &second, damaged);
+    if let Some(pair) = damaged {
+        return refused(&first, &second, pair);
+    }
     match (&first, &second) {
         (Answer::Read(a), Answer::Read(b)) => agrees(case, a, b),
         (Answer::Refused(a), Answer::Refused(b)) if a == b => Ok(()),
@@ -79,9 +83,29 @@ fn compare(case: &Case, set: &sets::Lent, tally: &mut Tally) -> Result<(), Strin
     }
 }
 
+// Request P4: a fourteenth escape is refused in the standard reading, whatever comes behind it. Where the crate reads on, the pair's
+// second line is 4 or more at level 14, and no pair before it has one.
+fn refused(first: &Answer, second: &Answer, pair: usize) -> Result<(), String> {
+    let over = |x: &i32| x.unsigned_abs() >= 4 << 14;
+    let there = match first {
+        Answer::Read(a) => a.lines.iter().position(over) == Some(2 * pair + 1),
+        Answer::Refused(_) => true,
+    };
+    match there && *second == Answer::Refused(Refused::new(19, &[pair], &[])) {
+        true => Ok(()),
+        false => Err(format!(
+            "the Rust says pair {} has fourteen escapes, reading 0 says {:?}, reading 1 says {:?}",
+            pair, first, second
+        )),
+    }
+}
+
 // The standard's zero flag also asks for a noise field of 7. Only in least-bit mode do the readings differ further: in the lines,
 // and so in what comes of them.
 fn agrees(case: &Case, a: &Read, b: &Read) -> Result<(), String> {
+    if b.lines.iter().any(|x| x.unsigned_abs() > 32_767) {
+        return Err(format!("reading 1 has a line over 32,767: {:?}", b));
+    }
     let mut expected = a.clone();
     if a.least_bits() {
         expected.lines.clone_from(&b.lines);

@@ -228,6 +228,9 @@ fn called(case: &Case, set: &Lent, reading: usize) -> (u32, Slices) {
 #[cfg(rust_alone)]
 pub fn read(case: &Case, _: &Lent, reading: usize) -> Result<Answer, String> {
     let mut answer = super::rust::read(case);
+    if let (Some(pair), 1) = (super::rust::damaged(case), reading) {
+        return Ok(Answer::Refused(Refused::new(19, &[pair], &[])));
+    }
     if let (Answer::Read(read), 1) = (&mut answer, reading) {
         read.zero = read.zero && read.noise() == 7;
     }
@@ -442,7 +445,35 @@ pub fn hand(tally: &mut Tally) -> Result<(), String> {
         }
         tally.add("checked by hand");
     }
-    cursor(&set, tally)
+    cursor(&set, tally)?;
+    damage(&set, tally)
+}
+
+// The frames of request P4, by the flat set: in the standard reading 19 with pair 6, though its tail bits have no room, and with pair 0
+// in least-bit mode, where level 0 has no tail bits. The crate reading says of them what it said before.
+#[cfg(not(rust_alone))]
+fn damage(set: &Lent, tally: &mut Tally) -> Result<(), String> {
+    let frames: [([u8; 20], usize, &[usize], [usize; 3]); 2] = [
+        ([0, 0, 0, 255, 191, 188, 131, 214, 110, 212, 64, 0, 0, 18, 59, 250, 0, 0, 0, 6], 6, &[1, 84], [6, 6, 13]),
+        ([255, 248, 56, 131, 214, 110, 212, 64, 0, 15, 255, 255, 252, 18, 59, 250, 0, 0, 0, 64], 0, &[], [0, 0, 0]),
+    ];
+    for (frame, pair, values, step) in frames {
+        for reading in [0, 1] {
+            let mut to = Slices::new(80, 1);
+            let said = call([0, 0, reading], set, &frame, &mut to);
+            let answer = answer_of(said, &to, 20)?;
+            let right = match &answer {
+                Answer::Refused(e) if reading == 1 => *e == Refused::new(19, &[pair], &[]),
+                Answer::Refused(e) => *e == Refused::new(9, values, &step),
+                Answer::Read(read) => reading == 0 && values.is_empty() && read.lines[1].unsigned_abs() >= 4 << 14,
+            };
+            if !right {
+                return Err(format!("the frame of request P4 with pair {} in reading {}: {:?}", pair, reading, answer));
+            }
+            tally.add("checked by hand");
+        }
+    }
+    Ok(())
 }
 
 // The frame of request P6, by the flat set: 9 tells the tail cursor before the bit that is missing, in both readings.

@@ -5,6 +5,7 @@ use crate::lc3::common::config::FrameDuration;
 use crate::lc3::decoder::arithmetic_codec::{decode, door, ArithmeticCodecError, ArithmeticDecodeError};
 use crate::lc3::decoder::buffer_reader::{BufferReader, BufferReaderError};
 use crate::lc3::decoder::side_info_reader::{self, SideInfoError};
+use crate::lc3::decoder::standard_codec;
 use crate::lc3::side_info::SideInfo;
 use std::panic::{catch_unwind, set_hook, take_hook, AssertUnwindSafe};
 use std::sync::atomic::{AtomicBool, Ordering};
@@ -39,6 +40,23 @@ pub fn returned(case: &Case) -> Result<Answer, (usize, usize)> {
     CAUGHT.store(false, Ordering::Relaxed);
     let (head, tail) = (reader.get_head_byte_cursor(), reader.get_tail_bit_cursor());
     answer.map(|answer| with_cursor(answer, tail)).map_err(|_| (head, tail))
+}
+
+// The pair whose fourteenth escape is read, by the copy that stops there. Where the Rust panics or refuses, it does so before any.
+pub fn damaged(case: &Case) -> Option<usize> {
+    let duration = [FrameDuration::TenMs, FrameDuration::SevenPointFiveMs][case.duration];
+    let mut reader = BufferReader::new();
+    let side = side_info_reader::read(&case.frame, &mut reader, case.fs_ind, case.ne()).ok()?;
+    let mut lines = vec![0; case.room];
+    CAUGHT.store(true, Ordering::Relaxed);
+    let answer = catch_unwind(AssertUnwindSafe(|| {
+        standard_codec::decode(&case.frame, &mut reader, case.fs_ind, case.ne(), &side, &duration, &mut lines)
+    }));
+    CAUGHT.store(false, Ordering::Relaxed);
+    match answer {
+        Ok(Err(standard_codec::ArithmeticDecodeError::SpectralData(pair, 14, _))) => Some(pair),
+        _ => None,
+    }
 }
 
 // Of refusal 9 the Rust tells the bit index. A refused read moves no cursor, so its reader stands before the field: that is the tail

@@ -31,6 +31,12 @@ const EXPECTED: &[&str] = &[
     "a line over 32,767",
     "zero flag",
     "zero flag in reading 0 alone",
+    "refused 19 in reading 1: reading 0 accepts",
+    "refused 19 in reading 1: reading 0 accepts, in least-bit mode",
+    "refused 19 in reading 1: reading 0 lacks its tail bits",
+    "refused 19 in reading 1: reading 0 lacks its signs",
+    "refused 19 in reading 1: reading 0 refuses 12",
+    "refused 19 in reading 1: reading 0 refuses behind it",
     "least-bit mode: readings differ",
     "least-bit mode: readings agree",
     "head and tail have crossed",
@@ -106,7 +112,20 @@ impl Tally {
         }
     }
 
-    pub fn count_readings(&mut self, first: &Answer, second: &Answer) {
+    pub fn count_readings(&mut self, first: &Answer, second: &Answer, damaged: Option<usize>) {
+        if let Some(pair) = damaged {
+            self.add("refused 19 in reading 1");
+            self.add(match first {
+                Answer::Read(a) if a.least_bits() => "refused 19 in reading 1: reading 0 accepts, in least-bit mode",
+                Answer::Read(_) => "refused 19 in reading 1: reading 0 accepts",
+                Answer::Refused(e) if e.step == [6, pair, 13] => {
+                    "refused 19 in reading 1: reading 0 lacks its tail bits"
+                }
+                Answer::Refused(e) if e.step == [6, pair, 14] => "refused 19 in reading 1: reading 0 lacks its signs",
+                Answer::Refused(e) if e.number == 12 => "refused 19 in reading 1: reading 0 refuses 12",
+                Answer::Refused(_) => "refused 19 in reading 1: reading 0 refuses behind it",
+            });
+        }
         if let (Answer::Read(a), Answer::Read(b)) = (first, second) {
             if a.least_bits() {
                 self.add(match a.lines == b.lines {

@@ -13,7 +13,7 @@ use Rattle.common.specs.Tables.{rowPasses}
 use Rattle.common.proofs.Bools.{or-fails-second}
 use Rattle.common.proofs.Replies.{accepted-same, then-split, given-split}
 use Rattle.buffer_reader.specs.Reads.{takeByte, takeBit, bitBeyond}
-use Rattle.buffer_reader.specs.Steps.{next, found, asNumber, takeFlag}
+use Rattle.buffer_reader.specs.Steps.{next, found, refusing, asNumber, takeFlag}
 use Rattle.buffer_reader.specs.declared.Cursor.{Cursor}
 use Rattle.buffer_reader.proofs.Roomy.{Ends, ends-given, ends-then}
 use Rattle.range_decoder.specs.Decoder.{unitOf, owner, narrowed, appendByte, renormalised, Decoded, symbolStep, rangePasses}
@@ -106,6 +106,11 @@ module _ {M : List ℕ → Cursor → Cursor → Type 0} where
   pub keeps-if : {A : Type 0} (P : Reply → Type 0) (K : A → Type 0) (t : Bool) (a b : Coding A) → (t ≡ true → Keeps M P K a) → (t ≡ false → Keeps M P K b) → Keeps M P K (cond t a b)
   keeps-if P K true a b ka kb = ka refl
   keeps-if P K false a b ka kb = kb refl
+
+  -- a refusal before it, where a test holds
+  pub keeps-refusing : {A : Type 0} (P : Reply → Type 0) (K : A → Type 0) (t : Bool) (r : Reply) (coding : Coding A) → P r → (t ≡ false → Keeps M P K coding) → Keeps M P K (λ s. refusing t r (coding s))
+  keeps-refusing P K t r coding p k =
+      record { ends = λ s f c d l ok m. ends-given P (Behind M K f c) t r (coding s f d) p (λ e. k e .ends s f c d l ok m) }
 
 -- ---- a symbol
 

@@ -124,3 +124,7 @@ widthNotListed width = reply 17 (width ∷ [])
 -- 18: tagged field malformed, or no room for it
 abbrev pub fieldMalformed : ℕ → Reply
 fieldMalformed offset = reply 18 (offset ∷ [])
+
+-- 19, by request P4: fourteen escapes, in the standard reading
+abbrev pub fourteenEscapes : ℕ → Reply
+fourteenEscapes pair = reply 19 (pair ∷ [])

@@ -54,7 +54,7 @@ module _ (k : Configuration) (ne : ℕ) (f lookup frequencies orders coefficient
     tnsBy v = readTns orders coefficients v (s .«tns_first») (s .«tns_second») state f c
 
     abbrev pairsBy : ℕ → DecoderState → Cursor → Answer (Coded (List Pair) × Cursor)
-    pairsBy v st d = readPairs lookup frequencies (eqb (s .lsb) 1) v ne 0 (s .lastnz / 2) 0 st f d
+    pairsBy v st d = readPairs lookup frequencies (eqb (k .reading) 1) (eqb (s .lsb) 1) v ne 0 (s .lastnz / 2) 0 st f d
 
     abbrev dataBy : Coded Tns × Cursor → Coded (List Pair) × Cursor → Data × Cursor
     dataBy x y = (record { side = s; tns = x .0 .value; pairs = y .0 .value; range = y .0 .state .range }, y .1)
@@ -73,7 +73,7 @@ module _ (k : Configuration) (ne : ℕ) (f lookup frequencies orders coefficient
         }
 
     abbrev fillBy : DecoderState → Cursor → Answer (Coded (List ℤ × List ℕ) × Cursor)
-    fillBy st d = filling (s .lastnz / 2) lines levels (readPairs lookup frequencies (eqb (s .lsb) 1) rate ne 0 (s .lastnz / 2) 0) st f d
+    fillBy st d = filling (s .lastnz / 2) lines levels (readPairs lookup frequencies (eqb (k .reading) 1) (eqb (s .lsb) 1) rate ne 0 (s .lastnz / 2) 0) st f d
 
     pub coded-first : {r : Reply} → told (tnsBy w) ≡ refused r → held lines levels (readCoded k t bits ne s state f c) ≡ refused r
     coded-first e = ap (λ v. whole (tnsBy v)) (sym ew) ∙ ap whole (then-refused (tnsBy w) toldBy e)

@@ -4,8 +4,9 @@ use Prim.Native.Nat.{ℕ, _+_, _*_, _/_, _%_, _≤_, _<_}
 use mathlib.Core.Path.{_≡_, refl, sym, ap, subst, _∙_}
 use mathlib.Core.Bool.{Bool, true, false, cond, _&&_, true≢false}
 use mathlib.Core.List.{List}
+use mathlib.Core.Logic.{inl, inr}
 use native.Mathlib.Omega.{arith}
-use borrow.Author.Tests.{le-leb, leb-true}
+use borrow.Author.Tests.{le-leb, leb-true, eqb-true}
 use lib.Dec.{leb, ltb, eqb}
 use lib.ListN.{length}
 use Rattle.common.specs.Reply.{Step, nowhere, side, start, order, coef, symbol, bit, Reply, Answer, accepted, refused, andThen, within}
@@ -33,7 +34,7 @@ use Rattle.coding.specs.Coding.{Coded}
 use Rattle.tns_data.specs.Tns.{Tns, readTns, weightingRow}
 use Rattle.tns_data.proofs.Within.{tnsStep, TnsRefusal, TnsWithin, tns-keeps}
 use Rattle.spectral_data.specs.Spectral.{Pair, readPairs}
-use Rattle.spectral_data.proofs.Bounds.{Meets, bitMissing, byteMissing, lowBeyond, All, Sized, Pairs, pairs-going}
+use Rattle.spectral_data.proofs.Bounds.{Meets, bitMissing, byteMissing, lowBeyond, tooMany, All, Sized, Pairs, pairs-going}
 use Rattle.frame_reader.specs.Frame.{Data, readData, startIn}
 use Rattle.frame_reader.specs.Refusals.{standsIn, InFrame}
 use Rattle.frame_reader.specs.Private.{Low, Judged, tablesOf, readCoded}
@@ -41,20 +42,20 @@ use Rattle.frame_reader.proofs.Magnitudes.{EvenPair, pairs-even}
 
 -- ---- refusals, by stage
 
-pub own-in-frame : (r : Reply) → Own r → InFrame r
-own-in-frame r o =
+pub own-in-frame : (reading : ℕ) (r : Reply) → Own r → InFrame reading r
+own-in-frame reading r o =
     record {
       least = o .some;
-      most = omega (arith, o .low);
+      most = inl (omega (arith, o .low));
       place = rw (o .place, le-leb (r .number) 8 (o .low)) refl;
     }
 
-tns-in-frame : (r : Reply) → TnsRefusal r → InFrame r
-tns-in-frame r t =
+tns-in-frame : (reading : ℕ) (r : Reply) → TnsRefusal r → InFrame reading r
+tns-in-frame reading r t =
     let n = r .number in
     let ten = leb-true 10 n (and-left (leb 10 n) (leb n 11) (t .number)) in
     let eleven = leb-true n 11 (and-right (leb 10 n) (leb n 11) (t .number)) in
-    record { least = omega arith; most = omega arith; place = by (r .step) (t .place) }
+    record { least = omega arith; most = inl (omega arith); place = by (r .step) (t .place) }
   where
     by : (s : Step) → tnsStep s ≡ true → standsIn (r .number) s ≡ true
     by nowhere e = absurd (true≢false (sym e))
@@ -65,10 +66,11 @@ tns-in-frame r t =
     by (symbol p level) e = absurd (true≢false (sym e))
     by (bit p level) e = absurd (true≢false (sym e))
 
-pairs-in-frame : (r : Reply) → Meets r → InFrame r
-pairs-in-frame r (bitMissing p level tail h) = record { least = omega arith; most = omega arith; place = refl }
-pairs-in-frame r (byteMissing p level head h) = record { least = omega arith; most = omega arith; place = refl }
-pairs-in-frame r (lowBeyond p level low limit h) = record { least = omega arith; most = omega arith; place = refl }
+pairs-in-frame : (reading : ℕ) (r : Reply) → Meets (eqb reading 1) r → InFrame reading r
+pairs-in-frame reading r (bitMissing p level tail h) = record { least = omega arith; most = inl (omega arith); place = refl }
+pairs-in-frame reading r (byteMissing p level head h) = record { least = omega arith; most = inl (omega arith); place = refl }
+pairs-in-frame reading r (lowBeyond p level low limit h) = record { least = omega arith; most = inl (omega arith); place = refl }
+pairs-in-frame reading r (tooMany p is) = record { least = omega arith; most = inr (eqb-true reading 1 is, refl); place = refl }
 
 -- what holds of one kind of refusals, said of another
 ends-refusing : {A : Type 0} (P Q : Reply → Type 0) (K : A → Type 0) (a : Answer A) → ((r : Reply) → P r → Q r) → Ends P K a → Ends Q K a
@@ -111,11 +113,11 @@ inside-on : {f : List ℕ} {c d : Cursor} → BothMoved f c d → Inside f c →
 inside-on m i = record { three = omega (arith, m .head, i .three); head = m .headInside (i .head); tail = m .tailInside (i .tail) }
 
 -- what is known of data that was read, and of the cursor behind it
-pub record Behind (fs ne : ℕ) (f : List ℕ) (r : Data × Cursor) : Type 0 where
+pub record Behind (reading fs ne : ℕ) (f : List ℕ) (r : Data × Cursor) : Type 0 where
   pub limits : SideLimits fs ne (r .0 .side)
   pub filters : TnsWithin (r .0 .side .«tns_first») (r .0 .side .«tns_second») (r .0 .tns)
   pub count : length (r .0 .pairs) ≡ r .0 .side .lastnz / 2
-  pub sized : All Sized (r .0 .pairs)
+  pub sized : All (Sized (eqb reading 1)) (r .0 .pairs)
   pub even : eqb (r .0 .side .lsb) 1 ≡ true → All EvenPair (r .0 .pairs)
   pub least : 0x10000 ≤ r .0 .range
   pub most : r .0 .range ≤ 0xFFFFFF
@@ -131,6 +133,9 @@ module _ (k : Configuration) (ne : ℕ) (f lookup frequencies orders coefficient
   abbrev bits : ℕ
   bits = 8 * length f
 
+  abbrev standard : Bool
+  standard = eqb (k .reading) 1
+
   abbrev origin : Cursor
   origin = record { head = 0; tail = 0 }
 
@@ -144,7 +149,7 @@ module _ (k : Configuration) (ne : ℕ) (f lookup frequencies orders coefficient
   readingTns s state c = readTns orders coefficients (weightingRow (k .duration) bits) (s .«tns_first») (s .«tns_second») state f c
 
   abbrev readingPairs : SideInfo → DecoderState → Cursor → Answer (Coded (List Pair) × Cursor)
-  readingPairs s state c = readPairs lookup frequencies (eqb (s .lsb) 1) (rateFlag bits fs) ne 0 (s .lastnz / 2) 0 state f c
+  readingPairs s state c = readPairs lookup frequencies standard (eqb (s .lsb) 1) (rateFlag bits fs) ne 0 (s .lastnz / 2) 0 state f c
 
   -- behind the TNS data
   tns-ends : (s : SideInfo) (state : DecoderState) (c : Cursor) → rangePasses (state .range) ≡ true →
@@ -156,13 +161,13 @@ module _ (k : Configuration) (ne : ℕ) (f lookup frequencies orders coefficient
   tns-range s state c ok e = subst (Ends TnsRefusal (Keeps.Behind HeadMoved (TnsWithin (s .«tns_first») (s .«tns_second»)) f c)) e (tns-ends s state c ok) .range
 
   module _ (s : SideInfo) (limits : SideLimits fs ne s) where
-    coded-ends : (state : DecoderState) (c : Cursor) → rangePasses (state .range) ≡ true → Inside f c → Ends InFrame (Behind fs ne f) (readCoded k t bits ne s state f c)
+    coded-ends : (state : DecoderState) (c : Cursor) → rangePasses (state .range) ≡ true → Inside f c → Ends (InFrame (k .reading)) (Behind (k .reading) fs ne f) (readCoded k t bits ne s state f c)
     coded-ends state c ok inside =
-        ends-then InFrame (Behind fs ne f) (Keeps.Behind HeadMoved (TnsWithin (s .«tns_first») (s .«tns_second»)) f c) (readingTns s state c) _
-        (ends-refusing TnsRefusal InFrame _ (readingTns s state c) tns-in-frame (tns-ends s state c ok))
-        (λ x e b. ends-then InFrame (Behind fs ne f) (Keeps.Behind BothMoved (Pairs Sized (s .lastnz / 2)) f (x .1)) (readingPairs s (x .0 .state) (x .1)) _
-        (ends-refusing Meets InFrame _ (readingPairs s (x .0 .state) (x .1)) pairs-in-frame
-        (pairs-going lookup frequencies (j .looked) (j .rows) (eqb (s .lsb) 1) (rateFlag bits fs) ne 0 (s .lastnz / 2) 0 .ends (x .0 .state) f (x .1) (x .1) short (b .range) (both-here f (x .1))))
+        ends-then (InFrame (k .reading)) (Behind (k .reading) fs ne f) (Keeps.Behind HeadMoved (TnsWithin (s .«tns_first») (s .«tns_second»)) f c) (readingTns s state c) _
+        (ends-refusing TnsRefusal (InFrame (k .reading)) _ (readingTns s state c) (tns-in-frame (k .reading)) (tns-ends s state c ok))
+        (λ x e b. ends-then (InFrame (k .reading)) (Behind (k .reading) fs ne f) (Keeps.Behind BothMoved (Pairs (Sized standard) (s .lastnz / 2)) f (x .1)) (readingPairs s (x .0 .state) (x .1)) _
+        (ends-refusing (Meets standard) (InFrame (k .reading)) _ (readingPairs s (x .0 .state) (x .1)) (pairs-in-frame (k .reading))
+        (pairs-going lookup frequencies (j .looked) (j .rows) standard (eqb (s .lsb) 1) (rateFlag bits fs) ne 0 (s .lastnz / 2) 0 .ends (x .0 .state) f (x .1) (x .1) short (b .range) (both-here f (x .1))))
         (λ y q p.
         let passes = p .range in
         let n = y .0 .state .range in
@@ -171,7 +176,7 @@ module _ (k : Configuration) (ne : ℕ) (f lookup frequencies orders coefficient
           filters = b .known;
           count = p .known .count;
           sized = p .known .each;
-          even = λ h. keeps-at (pairs-even lookup frequencies (j .looked) (j .rows) (rateFlag bits fs) ne 0 (s .lastnz / 2) 0) (x .0 .state) f (x .1) short (b .range) (both-here f (x .1)) (subst (λ t. readPairs lookup frequencies t (rateFlag bits fs) ne 0 (s .lastnz / 2) 0 (x .0 .state) f (x .1) ≡ accepted y) h q) .known .each;
+          even = λ h. keeps-at (pairs-even lookup frequencies (j .looked) (j .rows) standard (rateFlag bits fs) ne 0 (s .lastnz / 2) 0) (x .0 .state) f (x .1) short (b .range) (both-here f (x .1)) (subst (λ t. readPairs lookup frequencies standard t (rateFlag bits fs) ne 0 (s .lastnz / 2) 0 (x .0 .state) f (x .1) ≡ accepted y) h q) .known .each;
           least = leb-true 0x10000 n (and-left (leb 0x10000 n) (leb n 0xFFFFFF) passes);
           most = leb-true n 0xFFFFFF (and-right (leb 0x10000 n) (leb n 0xFFFFFF) passes);
           place = inside-on (p .moved) (inside-on (both-of-head (b .moved)) inside);
@@ -209,16 +214,16 @@ module _ (k : Configuration) (ne : ℕ) (f lookup frequencies orders coefficient
           tail = omega (arith, side-ahead .near, ranges .3);
         }
 
-    behind-side : Ends InFrame (Behind fs ne f) (andThen (startIn f (x .1)) (λ r. readCoded k t bits ne (x .0) (r .0) f (r .1)))
+    behind-side : Ends (InFrame (k .reading)) (Behind (k .reading) fs ne f) (andThen (startIn f (x .1)) (λ r. readCoded k t bits ne (x .0) (r .0) f (r .1)))
     behind-side =
-        subst (λ (a : Answer (DecoderState × Cursor)). Ends InFrame (Behind fs ne f) (andThen (within start a) (λ r. readCoded k t bits ne (x .0) (r .0) f (r .1)))) (sym start-there)
+        subst (λ (a : Answer (DecoderState × Cursor)). Ends (InFrame (k .reading)) (Behind (k .reading) fs ne f) (andThen (within start a) (λ r. readCoded k t bits ne (x .0) (r .0) f (r .1)))) (sym start-there)
         (coded-ends (x .0) side-known (record { low = threeAt f (x .1 .head); range = 0xFFFFFF }) (record { head = x .1 .head + 3; tail = x .1 .tail }) refl start-inside)
 
-  pub data-ends : Ends InFrame (Behind fs ne f) (readData k t bits ne f origin)
+  pub data-ends : Ends (InFrame (k .reading)) (Behind (k .reading) fs ne f) (readData k t bits ne f origin)
   data-ends =
-      ends-then InFrame (Behind fs ne f) (λ r. Ahead origin 74 (r .1)) (readAll fs ne f origin) _
-      (ends-refusing Own InFrame _ (readAll fs ne f origin) own-in-frame side-ends)
+      ends-then (InFrame (k .reading)) (Behind (k .reading) fs ne f) (λ r. Ahead origin 74 (r .1)) (readAll fs ne f origin) _
+      (ends-refusing Own (InFrame (k .reading)) _ (readAll fs ne f origin) (own-in-frame (k .reading)) side-ends)
       (λ x e ahead. behind-side x e)
 
-  pub data-behind : {r : Data × Cursor} → readData k t bits ne f origin ≡ accepted r → Behind fs ne f r
-  data-behind e = subst (Ends InFrame (Behind fs ne f)) e data-ends
+  pub data-behind : {r : Data × Cursor} → readData k t bits ne f origin ≡ accepted r → Behind (k .reading) fs ne f r
+  data-behind e = subst (Ends (InFrame (k .reading)) (Behind (k .reading) fs ne f)) e data-ends

@@ -55,7 +55,7 @@ module _ (k : Configuration) (t : Tables) (bits ne : ℕ) (s : SideInfo) where
   tnsBy state = readTns (t .orders) (t .coefficients) (weightingRow (k .duration) bits) (s .«tns_first») (s .«tns_second») state
 
   abbrev pairsBy : DecoderState → Reading (Coded (List Pair))
-  pairsBy state = readPairs (t .lookup) (t .frequencies) (eqb (s .lsb) 1) (rateFlag bits (k .«fs_ind»)) ne 0 (s .lastnz / 2) 0 state
+  pairsBy state = readPairs (t .lookup) (t .frequencies) (eqb (k .reading) 1) (eqb (s .lsb) 1) (rateFlag bits (k .«fs_ind»)) ne 0 (s .lastnz / 2) 0 state
 
   abbrev dataBy : Tns → Coded (List Pair) → Data
   dataBy tns pairs = record { side = s; tns = tns; pairs = pairs .value; range = pairs .state .range }
@@ -86,14 +86,14 @@ module _ (k : Configuration) (t : Tables) (bits ne : ℕ) (s : SideInfo) where
       let tns = only-tns (t .orders) (t .coefficients) (weightingRow (k .duration) bits) (s .«tns_first») (s .«tns_second») (p .first .0) in
       let a : c .head ≤ p .first .1 .head = only-start .forward f c (p .first) (p .begun) in
       let b : p .first .1 .head ≤ p .second .1 .head = tns .forward f (p .first .1) (p .second) (p .filtered) in
-      let u : p .second .1 .head ≤ p .third .1 .head = forward-pairs (t .lookup) (t .frequencies) (eqb (s .lsb) 1) (rateFlag bits (k .«fs_ind»)) ne 0 (s .lastnz / 2) 0 .on (p .second .0 .state) f (p .second .1) (p .third) (p .paired) in
+      let u : p .second .1 .head ≤ p .third .1 .head = forward-pairs (t .lookup) (t .frequencies) (eqb (k .reading) 1) (eqb (s .lsb) 1) (rateFlag bits (k .«fs_ind»)) ne 0 (s .lastnz / 2) 0 .on (p .second .0 .state) f (p .second .1) (p .third) (p .paired) in
       let v : p .third .1 .head ≡ x .1 .head = ap (λ (r : Data × Cursor). r .1 .head) (p .same) in
       rw (
         only-start .own f g c d (p .first) size h (p .begun) (λ j m n. agree j m (omega arith)),
         tns .own f g (p .first .1) (at (p .first .1) d) (p .second) size refl (p .filtered) (λ j m n. agree j (omega arith) (omega arith)),
       )
       (ends-then ByTail (SameData x) (Alike Symbols (p .third)) (pairsBy (p .second .0 .state) g (at (p .second .1) d)) _
-      (follows-pairs (t .lookup) (t .frequencies) (eqb (s .lsb) 1) (rateFlag bits (k .«fs_ind»)) ne 0 (s .lastnz / 2) 0 .follow (p .second .0 .state) f g (p .second .1) (at (p .second .1) d) (p .third) short size refl (p .paired) (λ j m n. agree j (omega arith) (omega arith)))
+      (follows-pairs (t .lookup) (t .frequencies) (eqb (k .reading) 1) (eqb (s .lsb) 1) (rateFlag bits (k .«fs_ind»)) ne 0 (s .lastnz / 2) 0 .follow (p .second .0 .state) f g (p .second .1) (at (p .second .1) d) (p .third) short size refl (p .paired) (λ j m n. agree j (omega arith) (omega arith)))
       (λ y w l. subst (λ (r : Data × Cursor). SameData r (dataBy (p .second .0 .value) (y .0), y .1)) (p .same)
       (record { tns = refl; symbols = l .value; head = l .head; range = ap (λ (r : DecoderState). r .range) (l .state) })))
 

@@ -8,21 +8,21 @@ use native.Mathlib.Omega.{arith}
 use lib.Dec.{ltb, eqb}
 use lib.ListN.{length}
 use lib.IntN.{pos, negℤ}
-use Rattle.common.specs.Reply.{Step, symbol, bit, Answer, accepted, refused, andThen, within}
+use Rattle.common.specs.Reply.{Step, symbol, bit, Reply, fourteenEscapes, Answer, accepted, refused, andThen, within}
 use Rattle.common.specs.Tables.{rowAt}
-use Rattle.common.proofs.Replies.{accepted-same, then-split}
+use Rattle.common.proofs.Replies.{accepted-same, then-split, given-split}
 use Rattle.buffer_reader.specs.Reads.{takeBit, bitBeyond}
-use Rattle.buffer_reader.specs.Steps.{asNumber}
+use Rattle.buffer_reader.specs.Steps.{refusing, asNumber}
 use Rattle.buffer_reader.specs.declared.Cursor.{Cursor}
 use Rattle.buffer_reader.proofs.Answers.{bit-refused, bit-taken}
 use Rattle.buffer_reader.proofs.Roomy.{Ends, ends-refused, ends-accepted, ends-then}
 use Rattle.range_decoder.specs.declared.DecoderState.{DecoderState}
 use Rattle.contexts.specs.Contexts.{rowOf, escapeSymbol, firstPart, secondPart, lookupStart, nextContext}
 use Rattle.coding.specs.Coding.{Coded, Coding, done, onward, met, symbolBy, tailBitBy}
-use Rattle.spectral_data.specs.Spectral.{Pair, Levels, lowBits, readLevels, readSign, readPair, readPairs}
+use Rattle.spectral_data.specs.Spectral.{Pair, Levels, lowBits, behindEscape, readLevels, readSign, readPair, readPairs}
 use Rattle.spectral_data.specs.Private.{signsBy}
 use Rattle.spectral_data.proofs.Heads.{AgreeHead, Alike, Forward, Still, Any, still-done, still-onward, still-bit, forward-still, forward-onward, forward-if, forward-symbol}
-use Rattle.spectral_data.proofs.Symbols.{firstIn, secondIn, SameLevels, SamePair, symbolAt, levelsOn, forward-on, forward-levels, forward-pair, forward-pairs}
+use Rattle.spectral_data.proofs.Symbols.{firstIn, secondIn, SameLevels, SamePair, still-behind, symbolAt, levelsOn, forward-on, forward-levels, forward-pair, forward-pairs}
 use Rattle.frame_reader.specs.Depends.{symbolsOf, ByTail, bitMissing}
 use Rattle.frame_reader.proofs.Heads.{only-met}
 
@@ -109,6 +109,15 @@ follows-if : {A B : Type 0} (R : A → B → Type 0) (t : Bool) (k m : Coding A)
 follows-if R true k m l n p q = p
 follows-if R false k m l n p q = q
 
+-- where a refusal before one is not given, that before the other is not
+follows-refusing : {A B : Type 0} (R : A → B → Type 0) (t : Bool) (r : Reply) (k : Coding A) (l : Coding B) → Follows R k l → Follows R (λ s. refusing t r (k s)) (λ s. refusing t r (l s))
+follows-refusing R t r k l h =
+    record {
+      follow = λ s f g c d x short size same e agree.
+          let p = given-split t r (k s f c) e in
+          rw (p .0) (h .follow s f g c d x short size same (p .1) agree);
+    }
+
 module _ {A B C D : Type 0} (R : A → B → Type 0) (Q : C → D → Type 0) where
   follows-onward : (k : Coding A) (l : Coding B) (m : A → Coding C) (n : B → Coding D) → Follows R k l → Forward k → ((a : A) → Forward (m a)) → ((a : A) (b : B) → R a b → Follows Q (m a) (n b)) → Follows Q (onward k m) (onward l n)
   follows-onward k l m n first goes on rest =
@@ -139,19 +148,21 @@ more-same : (x y : Pair) (xs ys : List Pair) → SamePair x y → Symbols xs ys 
 unfolding symbolsOf
 more-same x y xs ys h q = rw (h .escapes, h .last, q) refl
 
-module _ (lookup frequencies : List ℕ) (lsb : Bool) where
-  follows-levels : (p t left level a b u v : ℕ) → Follows SameLevels (readLevels lookup frequencies lsb p t left level a b) (readLevels lookup frequencies lsb p t left level u v)
+module _ (lookup frequencies : List ℕ) (standard lsb : Bool) where
+  follows-levels : (p t left level a b u v : ℕ) → Follows SameLevels (readLevels lookup frequencies standard lsb p t left level a b) (readLevels lookup frequencies standard lsb p t left level u v)
   unfolding readLevels
   follows-levels p t zero level a b u v = follows-done SameLevels _ _ (record { escapes = refl; last = refl })
   follows-levels p t (suc left) level a b u v =
-      follows-onward (_≡_ {A = ℕ}) SameLevels (symbolAt lookup frequencies lsb p t level) (symbolAt lookup frequencies lsb p t level) (levelsOn lookup frequencies lsb p t left level a b) (levelsOn lookup frequencies lsb p t left level u v)
+      follows-onward (_≡_ {A = ℕ}) SameLevels (symbolAt lookup frequencies standard lsb p t level) (symbolAt lookup frequencies standard lsb p t level) (levelsOn lookup frequencies standard lsb p t left level a b) (levelsOn lookup frequencies standard lsb p t left level u v)
       (follows-symbol (symbol p level) (rowAt 17 (rowOf lookup t level) frequencies)) (forward-symbol (symbol p level) (rowAt 17 (rowOf lookup t level) frequencies))
-      (λ k. forward-on lookup frequencies lsb p t left level a b k (forward-levels lookup frequencies lsb p t left (level + 1)))
-      (λ k m e. subst (λ (q : ℕ). Follows SameLevels (levelsOn lookup frequencies lsb p t left level a b k) (levelsOn lookup frequencies lsb p t left level u v q)) e
+      (λ k. forward-on lookup frequencies standard lsb p t left level a b k (forward-levels lookup frequencies standard lsb p t left (level + 1)))
+      (λ k m e. subst (λ (q : ℕ). Follows SameLevels (levelsOn lookup frequencies standard lsb p t left level a b k) (levelsOn lookup frequencies standard lsb p t left level u v q)) e
       (follows-if SameLevels (ltb k escapeSymbol) _ _ _ _
       (follows-done SameLevels (record { escapes = level; last = k; lowFirst = a; lowSecond = b }) (record { escapes = level; last = k; lowFirst = u; lowSecond = v }) (record { escapes = refl; last = refl }))
-      (follows-onward Any SameLevels (lowBits lsb p level) (lowBits lsb p level) _ _ (follows-quiet _ _ (quiet-low lsb p level) (quiet-low lsb p level)) (forward-still _ (quiet-low lsb p level .still))
-      (λ low. forward-levels lookup frequencies lsb p t left (level + 1) (a + low .0 * 2 ^ level) (b + low .1 * 2 ^ level))
+      (follows-onward Any SameLevels (behindEscape standard lsb p level) (behindEscape standard lsb p level) _ _
+      (follows-refusing Any (standard && eqb level 13) (fourteenEscapes p) (lowBits lsb p level) (lowBits lsb p level) (follows-quiet _ _ (quiet-low lsb p level) (quiet-low lsb p level)))
+      (forward-still _ (still-behind standard lsb p level))
+      (λ low. forward-levels lookup frequencies standard lsb p t left (level + 1) (a + low .0 * 2 ^ level) (b + low .1 * 2 ^ level))
       (λ low high h. follows-levels p t left (level + 1) (a + low .0 * 2 ^ level) (b + low .1 * 2 ^ level) (u + high .0 * 2 ^ level) (v + high .1 * 2 ^ level)))))
 
   -- whatever the signs are
@@ -165,10 +176,10 @@ module _ (lookup frequencies : List ℕ) (lsb : Bool) where
       (λ second. forward-still _ (still-done _))
       (λ second another o. follows-done SamePair _ _ (record { escapes = h .escapes; last = h .last })))
 
-  follows-pair : (p t : ℕ) → Follows SamePair (readPair lookup frequencies lsb p t) (readPair lookup frequencies lsb p t)
+  follows-pair : (p t : ℕ) → Follows SamePair (readPair lookup frequencies standard lsb p t) (readPair lookup frequencies standard lsb p t)
   follows-pair p t =
-      follows-onward SameLevels SamePair (readLevels lookup frequencies lsb p t 14 0 0 0) (readLevels lookup frequencies lsb p t 14 0 0 0) (signsBy p) (signsBy p)
-      (follows-levels p t 14 0 0 0 0 0) (forward-levels lookup frequencies lsb p t 14 0 0 0) (λ l. forward-still _ (quiet-signs p l .still)) (follows-signs p)
+      follows-onward SameLevels SamePair (readLevels lookup frequencies standard lsb p t 14 0 0 0) (readLevels lookup frequencies standard lsb p t 14 0 0 0) (signsBy p) (signsBy p)
+      (follows-levels p t 14 0 0 0 0 0) (forward-levels lookup frequencies standard lsb p t 14 0 0 0) (λ l. forward-still _ (quiet-signs p l .still)) (follows-signs p)
 
   module _ (rate ne : ℕ) where
     abbrev contextOf : ℕ → Pair → ℕ
@@ -177,15 +188,15 @@ module _ (lookup frequencies : List ℕ) (lsb : Bool) where
     same-context : (context : ℕ) (x y : Pair) → SamePair x y → contextOf context x ≡ contextOf context y
     same-context context x y h = rw (h .last, h .escapes) refl
 
-    pub follows-pairs : (p n context : ℕ) → Follows Symbols (readPairs lookup frequencies lsb rate ne p n context) (readPairs lookup frequencies lsb rate ne p n context)
+    pub follows-pairs : (p n context : ℕ) → Follows Symbols (readPairs lookup frequencies standard lsb rate ne p n context) (readPairs lookup frequencies standard lsb rate ne p n context)
     unfolding readPairs symbolsOf
     follows-pairs p zero context = follows-done Symbols [] [] refl
     follows-pairs p (suc n) context =
-        follows-onward SamePair Symbols (readPair lookup frequencies lsb p (lookupStart context rate ne (2 * p))) (readPair lookup frequencies lsb p (lookupStart context rate ne (2 * p))) _ _
-        (follows-pair p (lookupStart context rate ne (2 * p))) (forward-pair lookup frequencies lsb p (lookupStart context rate ne (2 * p)))
-        (λ x. forward-onward (readPairs lookup frequencies lsb rate ne (p + 1) n _) _ (forward-pairs lookup frequencies lsb rate ne (p + 1) n _)
+        follows-onward SamePair Symbols (readPair lookup frequencies standard lsb p (lookupStart context rate ne (2 * p))) (readPair lookup frequencies standard lsb p (lookupStart context rate ne (2 * p))) _ _
+        (follows-pair p (lookupStart context rate ne (2 * p))) (forward-pair lookup frequencies standard lsb p (lookupStart context rate ne (2 * p)))
+        (λ x. forward-onward (readPairs lookup frequencies standard lsb rate ne (p + 1) n _) _ (forward-pairs lookup frequencies standard lsb rate ne (p + 1) n _)
         (λ rest. forward-still _ (still-done (x ∷ rest))))
-        (λ x y h. follows-onward Symbols Symbols (readPairs lookup frequencies lsb rate ne (p + 1) n (contextOf context x)) (readPairs lookup frequencies lsb rate ne (p + 1) n (contextOf context y)) _ _
-        (subst (λ (m : ℕ). Follows Symbols (readPairs lookup frequencies lsb rate ne (p + 1) n (contextOf context x)) (readPairs lookup frequencies lsb rate ne (p + 1) n m)) (same-context context x y h) (follows-pairs (p + 1) n (contextOf context x)))
-        (forward-pairs lookup frequencies lsb rate ne (p + 1) n (contextOf context x)) (λ rest. forward-still _ (still-done (x ∷ rest)))
+        (λ x y h. follows-onward Symbols Symbols (readPairs lookup frequencies standard lsb rate ne (p + 1) n (contextOf context x)) (readPairs lookup frequencies standard lsb rate ne (p + 1) n (contextOf context y)) _ _
+        (subst (λ (m : ℕ). Follows Symbols (readPairs lookup frequencies standard lsb rate ne (p + 1) n (contextOf context x)) (readPairs lookup frequencies standard lsb rate ne (p + 1) n m)) (same-context context x y h) (follows-pairs (p + 1) n (contextOf context x)))
+        (forward-pairs lookup frequencies standard lsb rate ne (p + 1) n (contextOf context x)) (λ rest. forward-still _ (still-done (x ∷ rest)))
         (λ rest other q. follows-done Symbols (x ∷ rest) (y ∷ other) (more-same x y rest other h q)))

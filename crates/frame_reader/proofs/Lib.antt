@@ -9,3 +9,4 @@ pub mod Theorems
 pub mod Heads
 pub mod Follows
 pub mod Depends
+pub mod Readings

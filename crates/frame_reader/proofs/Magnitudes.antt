@@ -10,11 +10,11 @@ use borrow.Author.Tests.{ltb-true, eqb-true, eqb-false}
 use lib.Dec.{ltb, eqb}
 use lib.ListN.{length, getD, replicate}
 use lib.IntN.{ℤ, pos, natAbs}
-use Rattle.common.specs.Reply.{Reply, symbol, bit}
+use Rattle.common.specs.Reply.{Reply, symbol, bit, fourteenEscapes}
 use Rattle.common.specs.Tables.{rowAt, lookupPasses, partPasses}
 use Rattle.common.proofs.Bools.{by-test}
 use Rattle.contexts.specs.Contexts.{rowOf, escapeSymbol, firstPart, secondPart}
-use Rattle.coding.proofs.Keeps.{BothMoved, both-byte, both-bit, Keeps, keeps-done, keeps-onward, keeps-if, met-symbol, met-bit}
+use Rattle.coding.proofs.Keeps.{BothMoved, both-byte, both-bit, Keeps, keeps-done, keeps-onward, keeps-if, keeps-refusing, met-symbol, met-bit}
 use Rattle.spectral_data.specs.Spectral.{Pair, Levels, lowBits, readLevels, readPair, readPairs, linesOf, levelsOf}
 use Rattle.spectral_data.proofs.Bounds.{All, none, more, Sized, Pairs, signs-keep, pairs-keep, row-ok}
 use Rattle.residual_data.specs.Residual.{lateLine, lateFrom}
@@ -61,8 +61,8 @@ even-more (suc n) a x absent start even =
     let h = even (omega arith) in
     omega arith
 
-module _ (lookup frequencies : List ℕ) (looked : lookupPasses lookup ≡ true) (rows : partPasses 64 17 frequencies ≡ true) (p : ℕ) where
-  levels-going : (t left level a b : ℕ) → level + left ≡ 14 → (level ≡ 0 → (a ≡ 0) × (b ≡ 0)) → (1 ≤ level → (a % 2 ≡ 0) × (b % 2 ≡ 0)) → Keeps BothMoved Any Even (readLevels lookup frequencies true p t left level a b)
+module _ (lookup frequencies : List ℕ) (looked : lookupPasses lookup ≡ true) (rows : partPasses 64 17 frequencies ≡ true) (standard : Bool) (p : ℕ) where
+  levels-going : (t left level a b : ℕ) → level + left ≡ 14 → (level ≡ 0 → (a ≡ 0) × (b ≡ 0)) → (1 ≤ level → (a % 2 ≡ 0) × (b % 2 ≡ 0)) → Keeps BothMoved Any Even (readLevels lookup frequencies standard true p t left level a b)
   unfolding readLevels
   levels-going t zero level a b all start even =
       keeps-done Any Even (record { escapes = level; last = escapeSymbol; lowFirst = a; lowSecond = b })
@@ -73,7 +73,7 @@ module _ (lookup frequencies : List ℕ) (looked : lookupPasses lookup ≡ true)
       (λ k h. keeps-if Any Even (ltb k escapeSymbol) _ _
       (λ e. keeps-done Any Even (record { escapes = level; last = k; lowFirst = a; lowSecond = b })
       (record { behind = even; without = λ z. (start z .0, start z .1, ltb-true k 16 e) }))
-      (λ e. keeps-onward Any (Bits level) Even _ _ (low-going p level)
+      (λ e. keeps-onward Any (Bits level) Even _ _ (keeps-refusing Any (Bits level) (standard && eqb level 13) (fourteenEscapes p) (lowBits true p level) tt (λ test. low-going p level))
       (λ low q. levels-going t left (level + 1) (a + low .0 * 2 ^ level) (b + low .1 * 2 ^ level) (omega arith)
       (λ z. absurd (omega arith))
       (λ z. (even-more level a (low .0) (λ i. q i .0) (λ i. start i .0) (λ i. even i .0), even-more level b (low .1) (λ i. q i .1) (λ i. start i .1) (λ i. even i .1))))))
@@ -84,7 +84,7 @@ module _ (lookup frequencies : List ℕ) (looked : lookupPasses lookup ≡ true)
   whole-low : (z : ℤ) (low part n : ℕ) → natAbs z ≡ low + part * 2 ^ n → n ≡ 0 → low ≡ 0 → part ≤ 3 → natAbs z ≤ 3
   whole-low z low part n e h none-low most = let one : natAbs z ≡ 0 + part * 2 ^ 0 = e ∙ rw (h, none-low) refl in omega arith
 
-  pair-going : (t : ℕ) → Keeps BothMoved Any EvenPair (readPair lookup frequencies true p t)
+  pair-going : (t : ℕ) → Keeps BothMoved Any EvenPair (readPair lookup frequencies standard true p t)
   pair-going t =
       keeps-onward Any Even EvenPair _ _ (levels-going t 14 0 0 0 refl (λ z. (refl, refl)) (λ z. absurd (omega arith)))
       (λ l even. signs-keep Any EvenPair p l (λ tail. tt)
@@ -93,8 +93,8 @@ module _ (lookup frequencies : List ℕ) (looked : lookupPasses lookup ≡ true)
         without = λ h. let w = even .without h in (whole-low first (l .lowFirst) (firstPart (l .last)) (l .escapes) q h (w .0) (omega arith), whole-low second (l .lowSecond) (secondPart (l .last)) (l .escapes) r h (w .1) (omega (arith, w .2)));
       }))
 
-pub pairs-even : (lookup frequencies : List ℕ) → lookupPasses lookup ≡ true → partPasses 64 17 frequencies ≡ true → (rate ne p n context : ℕ) → Keeps BothMoved Any (Pairs EvenPair n) (readPairs lookup frequencies true rate ne p n context)
-pairs-even lookup frequencies looked rows = pairs-keep Any EvenPair lookup frequencies true (pair-going lookup frequencies looked rows)
+pub pairs-even : (lookup frequencies : List ℕ) → lookupPasses lookup ≡ true → partPasses 64 17 frequencies ≡ true → (standard : Bool) (rate ne p n context : ℕ) → Keeps BothMoved Any (Pairs EvenPair n) (readPairs lookup frequencies standard true rate ne p n context)
+pairs-even lookup frequencies looked rows standard = pairs-keep Any EvenPair lookup frequencies standard true (pair-going lookup frequencies looked rows standard)
 
 -- a line behind what comes late is larger by at most one
 module _ (f : List ℕ) (escaped : ℕ → Bool) where
@@ -122,7 +122,7 @@ pub record Bound (x : Pair) : Type 0 where
   pub second : natAbs (x .second) + 1 ≤ 81919
   pub secondFew : x .escapes < 14 → natAbs (x .second) + 1 ≤ 32767
 
-pub bound-late : (x : Pair) → Sized x → EvenPair x → Bound x
+pub bound-late : {standard : Bool} (x : Pair) → Sized standard x → EvenPair x → Bound x
 bound-late x s e = by (x .escapes) refl
   where
     by : (n : ℕ) → x .escapes ≡ n → Bound x
@@ -135,7 +135,7 @@ bound-late x s e = by (x .escapes) refl
           secondFew = λ few. omega (arith, w .1, s .secondFew few);
         }
 
-pub bounds : (xs : List Pair) → All Sized xs → All EvenPair xs → All Bound xs
+pub bounds : {standard : Bool} (xs : List Pair) → All (Sized standard) xs → All EvenPair xs → All Bound xs
 bounds [] none none = none
 bounds (x ∷ xs) (more s t) (more e u) = more (bound-late x s e) (bounds xs t u)
 

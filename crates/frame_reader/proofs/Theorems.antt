@@ -1,12 +1,13 @@
 -- What holds of every frame, over its definition: where a refusal stands, that used and spare are N, how long the residual list is,
--- and that outside least-bit mode the readings answer alike. By what the stages say of themselves. Assumes nothing.
-use Prim.Native.Nat.{ℕ, _+_, _-_, _*_, _≤_, _<_, min}
+-- and how large its lines are. By what the stages say of themselves. Assumes nothing.
+use Prim.Native.Nat.{ℕ, _+_, _-_, _*_, _/_, _%_, _≤_, _<_, min}
 use mathlib.Core.Path.{_≡_, refl, sym, ap, subst, _∙_}
 use mathlib.Core.Bool.{Bool, true, false, cond, not, _&&_, true≢false}
 use mathlib.Core.List.{List, [], _∷_}
+use mathlib.Core.Logic.{inl}
 use native.Mathlib.Omega.{arith}
-use borrow.Author.Tests.{le-leb, ltb-false, not-false}
-use lib.Dec.{leb, ltb, eqb}
+use borrow.Author.Tests.{le-leb, ltb-false, eqb-true, eqb-false, not-false}
+use lib.Dec.{ltb, eqb}
 use lib.ListN.{length, getD}
 use lib.IntN.{pos, natAbs}
 use Rattle.common.specs.Last.{floorLog2}
@@ -15,24 +16,24 @@ use Rattle.common.specs.Configuration.{configurationPasses, lengthPasses, frame
 use Rattle.common.specs.Configuration.{ne as lines·ne}
 use Rattle.common.specs.Tables.{Tables, tablesPass}
 use Rattle.common.specs.declared.configuration.Configuration.{Configuration}
-use Rattle.common.proofs.Replies.{no-refusal, accepted-same, then-split, given-split}
+use Rattle.common.proofs.Replies.{accepted-same, then-split, given-split}
+use Rattle.common.proofs.Bools.{by-test}
 use Rattle.common.proofs.Lasts.{log-range}
 use Rattle.buffer_reader.specs.declared.Cursor.{Cursor}
 use Rattle.buffer_reader.proofs.Roomy.{Ends, ends-given, ends-then, ends-refused}
 use Rattle.side_info.specs.Reader.{readAll}
-use Rattle.side_info.specs.declared.SideInfo.{SideInfo}
 use Rattle.side_info.proofs.Start.{lines-refusal}
 use Rattle.tns_data.proofs.Within.{TnsWithin}
 use Rattle.spectral_data.specs.Spectral.{linesOf, levelsOf}
 use Rattle.spectral_data.proofs.Bounds.{All, Sized}
-use Rattle.spectral_data.proofs.Lines.{even-most, odd-most, odd-few}
+use Rattle.spectral_data.proofs.Lines.{even-most, odd-most, odd-few, level-few}
 use Rattle.residual_data.specs.Residual.{usedBits, available, nonzero, residualList, escapedBy, lateFrom}
 use Rattle.residual_data.proofs.Residuals.{residual-length}
 use Rattle.residual_data.proofs.Lates.{late-spends, late-room}
 use Rattle.frame_reader.specs.Frame.{Data, Frame, filledTo, readData, withResidual, withLate, finished, readFrame}
 use Rattle.frame_reader.specs.Refusals.{InFrame}
 use Rattle.frame_reader.specs.Spare.{used, spare}
-use Rattle.frame_reader.specs.Stated.{Listed, Magnitudes, OutsideLeastBit}
+use Rattle.frame_reader.specs.Stated.{Listed, Magnitudes, FewEscapes, WithinSixteen}
 use Rattle.frame_reader.specs.Private.{readOn}
 use Rattle.frame_reader.proofs.Data.{Inside, Behind, ranges, own-in-frame, data-ends, data-behind}
 use Rattle.frame_reader.proofs.Magnitudes.{EvenPair, late-each, bounds, even-late, odd-late, odd-few-late, filled-size}
@@ -47,38 +48,39 @@ module _ (k : Configuration) (t : Tables) (count : ℕ) (f : List ℕ) where
   abbrev Read : Frame → Type 0
   Read fr = Unit {0}
 
-  in-no-step : (n : ℕ) (values : List ℕ) → 1 ≤ n → n ≤ 8 → InFrame (record { number = n; values = values; step = nowhere })
-  in-no-step n values least most = record { least = least; most = omega arith; place = rw (le-leb n 8 most) refl }
+  in-no-step : (n : ℕ) (values : List ℕ) → 1 ≤ n → n ≤ 8 → InFrame (k .reading) (record { number = n; values = values; step = nowhere })
+  in-no-step n values least most = record { least = least; most = inl (omega arith); place = rw (le-leb n 8 most) refl }
 
-  finished-ends : (ne : ℕ) (d : Data) (c : Cursor) → Ends InFrame Read (finished (k .reading) ne f d c)
+  finished-ends : (ne : ℕ) (d : Data) (c : Cursor) → Ends (InFrame (k .reading)) Read (finished (k .reading) ne f d c)
   finished-ends ne d c =
-      ends-then InFrame Read (λ room. Unit {0}) (available (8 * length f) c (d .range)) _
-      (ends-given InFrame (λ room. Unit {0}) (ltb (8 * length f) (usedBits c (d .range))) residualNegative _
-      (record { least = omega arith; most = omega arith; place = refl })
+      ends-then (InFrame (k .reading)) Read (λ room. Unit {0}) (available (8 * length f) c (d .range)) _
+      (ends-given (InFrame (k .reading)) (λ room. Unit {0}) (ltb (8 * length f) (usedBits c (d .range))) residualNegative _
+      (record { least = omega arith; most = inl (omega arith); place = refl })
       (λ e. tt))
       (λ room e u. tt)
 
-  frame-ends : Ends InFrame Read (readFrame k t count f)
+  frame-ends : Ends (InFrame (k .reading)) Read (readFrame k t count f)
   frame-ends = by (frameLines k (length f)) refl
     where
       by : (a : Answer ℕ) → frameLines k (length f) ≡ a →
-          Ends InFrame Read (andThen a (λ n. given (not (tablesPass t)) tablesFail (given (ltb count n) (wrongCount count) (readOn k t n f))))
-      by (refused r) e = own-in-frame r (lines-refusal k f e)
+          Ends (InFrame (k .reading)) Read (andThen a (λ n. given (not (tablesPass t)) tablesFail (given (ltb count n) (wrongCount count) (readOn k t n f))))
+      by (refused r) e = own-in-frame (k .reading) r (lines-refusal k f e)
       by (accepted n) e =
-          ends-given InFrame Read (not (tablesPass t)) tablesFail _ (in-no-step 3 [] (omega arith) (omega arith))
-          (λ g. ends-given InFrame Read (ltb count n) (wrongCount count) _ (in-no-step 4 (count ∷ []) (omega arith) (omega arith))
-          (λ h. ends-then InFrame Read (Behind (k .«fs_ind») n f) (readData k t (8 * length f) n f origin) _
+          ends-given (InFrame (k .reading)) Read (not (tablesPass t)) tablesFail _ (in-no-step 3 [] (omega arith) (omega arith))
+          (λ g. ends-given (InFrame (k .reading)) Read (ltb count n) (wrongCount count) _ (in-no-step 4 (count ∷ []) (omega arith) (omega arith))
+          (λ h. ends-then (InFrame (k .reading)) Read (Behind (k .reading) (k .«fs_ind») n f) (readData k t (8 * length f) n f origin) _
           (data-ends k n f (t .lookup) (t .frequencies) (t .orders) (t .coefficients) (judged k t count f n e (not-false (tablesPass t) g)))
           (λ x q b. finished-ends n (x .0) (x .1))))
 
-  -- 1: in a whole frame 9 stands in `bit` alone, 10 and 11 in `order`, `coef` or `symbol` alone, any other in no step, and all are 1 to 12
-  pub frame-refusal : {r : Reply} → readFrame k t count f ≡ refused r → InFrame r
-  frame-refusal e = ends-refused InFrame Read (readFrame k t count f) frame-ends e
+  -- 1: in a whole frame 9 stands in `bit` alone, 10 and 11 in `order`, `coef` or `symbol` alone, any other in no step; all are 1 to 12,
+  -- and in the standard reading also 19
+  pub frame-refusal : {r : Reply} → readFrame k t count f ≡ refused r → InFrame (k .reading) r
+  frame-refusal e = ends-refused (InFrame (k .reading)) Read (readFrame k t count f) frame-ends e
 
 -- ---- accepted frames
 
 -- the frame by its mode
-abbrev byMode : ℕ → ℕ → List ℕ → Data → Cursor → ℕ → Bool → Frame
+abbrev pub byMode : ℕ → ℕ → List ℕ → Data → Cursor → ℕ → Bool → Frame
 byMode reading ne f d c room lsb = cond lsb (withLate reading ne f d c room) (withResidual ne f d c room)
 
 -- an accepted frame is not too long, its filters are within their limits, and so are the last cursors and range
@@ -99,13 +101,22 @@ record Parts (k : Configuration) (t : Tables) (f : List ℕ) (fr : Frame) : Type
   short : length f ≤ 400
   filters : TnsWithin (read .side .«tns_first») (read .side .«tns_second») (read .tns)
   place : Inside f cursor
-  sized : All Sized (read .pairs)
+  sized : All (Sized (eqb (k .reading) 1)) (read .pairs)
   even : eqb (read .side .lsb) 1 ≡ true → All EvenPair (read .pairs)
   least : 0x10000 ≤ read .range
   most : read .range ≤ 0xFFFFFF
   fits : usedBits cursor (read .range) ≤ 8 * length f
   left : 8 * length f - usedBits cursor (read .range) ≡ room
   same : byMode (k .reading) ne f read cursor room (eqb (read .side .lsb) 1) ≡ fr
+
+-- every place is an even or an odd one
+pub within-sixteen : (x : Frame) → Magnitudes x → FewEscapes x → WithinSixteen x
+within-sixteen x m few k =
+    by-test (eqb (k % 2) 0)
+    (λ e. let at : k ≡ 2 * (k / 2) = omega (arith, eqb-true (k % 2) 0 e) in
+    subst (λ (i : ℕ). natAbs (getD (x .lines) i (pos 0)) ≤ 32767) (sym at) (m .evens (k / 2)))
+    (λ e. let at : k ≡ 2 * (k / 2) + 1 = omega (arith, eqb-false (k % 2) 0 e) in
+    subst (λ (i : ℕ). natAbs (getD (x .lines) i (pos 0)) ≤ 32767) (sym at) (m .few (k / 2) (few (k / 2))))
 
 module _ (k : Configuration) (t : Tables) (count : ℕ) (f : List ℕ) (fr : Frame) (e : readFrame k t count f ≡ accepted fr) where
   frame-parts : Parts k t f fr
@@ -208,53 +219,16 @@ module _ (k : Configuration) (t : Tables) (count : ℕ) (f : List ℕ) (fr : Fra
             few = λ i h. omega (arith, filled-size (linesOf xs) (P .ne - length (linesOf xs)) (2 * i + 1), odd-few xs (P .sized) i h);
           }
 
--- ---- the two readings
+  -- 4, in the standard reading: no pair has fourteen escapes, so every line is -32,767 to 32,767
+  pub few-escapes : k .reading ≡ 1 → FewEscapes fr
+  few-escapes is = subst FewEscapes (P .same) (by (eqb (P .read .side .lsb) 1))
+    where
+      each : FewEscapes (withResidual (P .ne) f (P .read) (P .cursor) (P .room))
+      each p = level-few (P .read .pairs) (subst (λ (r : ℕ). All (Sized (eqb r 1)) (P .read .pairs)) is (P .sized)) p
 
--- two chains that end alike behind their first part end alike
-then-alike : {A B : Type 0} (a : Answer A) (go on : A → Answer B) (z : Answer B) → ((x : A) → go x ≡ z → on x ≡ z) → andThen a go ≡ z → andThen a on ≡ z
-then-alike (accepted x) go on z h e = h x e
-then-alike (refused q) go on z h e = e
+      by : (lsb : Bool) → FewEscapes (byMode (k .reading) (P .ne) f (P .read) (P .cursor) (P .room) lsb)
+      by true = each
+      by false = each
 
-given-alike : {A : Type 0} (t : Bool) (q : Reply) (a b z : Answer A) → (a ≡ z → b ≡ z) → given t q a ≡ z → given t q b ≡ z
-given-alike true q a b z h e = e
-given-alike false q a b z h e = h e
-
-mode-side : (reading ne : ℕ) (f : List ℕ) (d : Data) (c : Cursor) (room : ℕ) (lsb : Bool) → d .side ≡ byMode reading ne f d c room lsb .side
-mode-side reading ne f d c room true = refl
-mode-side reading ne f d c room false = refl
-
-abbrev by-reading : Configuration → ℕ → Configuration
-by-reading k reading = record { «fs_ind» = k .«fs_ind»; duration = k .duration; reading = reading }
-
-module _ (k : Configuration) (r : ℕ) (one : leb (k .reading) 1 ≡ true) (two : leb r 1 ≡ true) (t : Tables) (count : ℕ) (f : List ℕ) where
-  abbrev other : Configuration
-  other = by-reading k r
-
-  lines-alike : frameLines k (length f) ≡ frameLines other (length f)
-  lines-alike = rw (one, two) refl
-
-  abbrev from : ℕ → ℕ → Answer Frame
-  from reading n =
-      given (not (tablesPass t)) tablesFail
-      (given (ltb count n) (wrongCount count)
-      (andThen (readData k t (8 * length f) n f (record { head = 0; tail = 0 })) (λ x. finished reading n f (x .0) (x .1))))
-
-  module _ (n : ℕ) (d : Data) (c : Cursor) (room : ℕ) where
-    mode-alike : (z : Answer Frame) → OutsideLeastBit z → accepted (byMode (k .reading) n f d c room (eqb (d .side .lsb) 1)) ≡ z → accepted (byMode r n f d c room (eqb (d .side .lsb) 1)) ≡ z
-    mode-alike (refused q) o h = absurd (no-refusal h)
-    mode-alike (accepted fr) o h =
-        let sides = mode-side (k .reading) n f d c room (eqb (d .side .lsb) 1) ∙ ap (λ (x : Frame). x .side) (accepted-same h) in
-        let is : eqb (d .side .lsb) 1 ≡ false = ap (λ (x : SideInfo). eqb (x .lsb) 1) sides ∙ o in
-        ap (λ b. accepted (byMode r n f d c room b)) is ∙ sym (ap (λ b. accepted (byMode (k .reading) n f d c room b)) is) ∙ h
-
-  -- 5: outside least-bit mode the readings answer alike on any bytes; the zero flag, which is no part of a frame here, aside
-  pub readings-alike : (z : Answer Frame) → OutsideLeastBit z → readFrame k t count f ≡ z → readFrame other t count f ≡ z
-  readings-alike z o e =
-      ap (λ (a : Answer ℕ). andThen a (from r)) (sym lines-alike)
-      ∙ then-alike (frameLines k (length f)) (from (k .reading)) (from r) z
-      (λ n. given-alike (not (tablesPass t)) tablesFail _ _ z
-      (given-alike (ltb count n) (wrongCount count) _ _ z
-      (then-alike (readData k t (8 * length f) n f (record { head = 0; tail = 0 })) _ _ z
-      (λ x. then-alike (available (8 * length f) (x .1) (x .0 .range)) _ _ z
-      (λ room h. mode-alike n (x .0) (x .1) room z o h)))))
-      e
+  pub standard-within : k .reading ≡ 1 → WithinSixteen fr
+  standard-within is = within-sixteen fr lines-within (few-escapes is)

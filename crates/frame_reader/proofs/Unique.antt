@@ -16,7 +16,7 @@ use Rattle.frame_reader.specs.Frame.{Frame}
 use Rattle.frame_reader.specs.Returned.{replyOf, outcomeOf, told, indicesOf, residualOf}
 use Rattle.frame_reader.specs.declared.Numbers.{Numbers}
 use Rattle.frame_reader.specs.declared.FrameError.{FrameError}
-use Rattle.frame_reader.specs.declared.FrameError.the-variants.{OutsideLimits, WrongLength, TablesFail, WrongCount, BandwidthIdxOutOfRange, LastNonZeroTupleGreaterThanYLen, PlcTriggerSns1OutOfRange, PlcTriggerSns2OutOfRange, Step, NegativeResidualNumBits}
+use Rattle.frame_reader.specs.declared.FrameError.the-variants.{OutsideLimits, WrongLength, TablesFail, WrongCount, BandwidthIdxOutOfRange, LastNonZeroTupleGreaterThanYLen, PlcTriggerSns1OutOfRange, PlcTriggerSns2OutOfRange, Step, FourteenEscapes, NegativeResidualNumBits}
 use Rattle.frame_reader.specs.declared.Outcome.{Outcome}
 use Rattle.frame_reader.specs.declared.Outcome.the-variants.{Read, Refused}
 use Rattle.frame_reader.specs.declared.FrameRead.{FrameRead}
@@ -33,7 +33,8 @@ errorBack r =
     (cond (eqb (r .number) 6) (LastNonZeroTupleGreaterThanYLen first (getD (r .values) 1 0))
     (cond (eqb (r .number) 7) (PlcTriggerSns1OutOfRange first)
     (cond (eqb (r .number) 8) (PlcTriggerSns2OutOfRange first)
-    (cond (eqb (r .number) 12) NegativeResidualNumBits (Step (metBack r))))))))))
+    (cond (eqb (r .number) 12) NegativeResidualNumBits
+    (cond (eqb (r .number) 19) (FourteenEscapes first) (Step (metBack r)))))))))))
 
 error-back : (e : FrameError) → errorBack (replyOf e) ≡ e
 unfolding errorBack
@@ -63,6 +64,7 @@ error-back (Step (Symbol p level (LowBeyondLimit l m))) = ap Step (met-back (Sym
 error-back (Step (Bit p level (NoTailRoom w b))) = ap Step (met-back (Bit p level (NoTailRoom w b)))
 error-back (Step (Bit p level (PastEnd h))) = ap Step (met-back (Bit p level (PastEnd h)))
 error-back (Step (Bit p level (LowBeyondLimit l m))) = ap Step (met-back (Bit p level (LowBeyondLimit l m)))
+error-back (FourteenEscapes pair) = refl
 error-back NegativeResidualNumBits = refl
 
 pub error-unique : (a b : FrameError) → replyOf a ≡ replyOf b → a ≡ b

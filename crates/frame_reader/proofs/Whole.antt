@@ -37,7 +37,7 @@ zeros-most m (suc n) (suc k) = zeros-most m n k
 filled-most : (m n : ℕ) (xs : List ℤ) → AtMost m xs → AtMost m (xs ++ replicate n (pos 0))
 filled-most m n xs h = append-most m xs (replicate n (pos 0)) h (zeros-most m n)
 
-pub lines-most : (xs : List Pair) → All Sized xs → AtMost 81919 (linesOf xs)
+pub lines-most : {standard : Bool} (xs : List Pair) → All (Sized standard) xs → AtMost 81919 (linesOf xs)
 unfolding linesOf
 lines-most [] none k = omega arith
 lines-most (x ∷ xs) (more s rest) zero = omega (arith, s .first)
@@ -79,7 +79,7 @@ module _ (k : Configuration) (ne : ℕ) (f lookup frequencies orders coefficient
     same : (heldOf zeros flat d, c) ≡ h
     same = accepted-same (read-so .2)
 
-    behind : Behind (k .«fs_ind») ne f (d, c)
+    behind : Behind (k .reading) (k .«fs_ind») ne f (d, c)
     behind = data-behind k ne f lookup frequencies orders coefficients j (read-so .1)
 
     abbrev n : ℕ

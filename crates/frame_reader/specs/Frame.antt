@@ -36,7 +36,7 @@ readData k t bits ne = do
   side ← readAll (k .«fs_ind») ne
   state ← startIn
   tns ← readTns (t .orders) (t .coefficients) (weightingRow (k .duration) bits) (side .«tns_first») (side .«tns_second») state
-  pairs ← readPairs (t .lookup) (t .frequencies) (eqb (side .lsb) 1) (rateFlag bits (k .«fs_ind»)) ne 0 (side .lastnz / 2) 0 (tns .state)
+  pairs ← readPairs (t .lookup) (t .frequencies) (eqb (k .reading) 1) (eqb (side .lsb) 1) (rateFlag bits (k .«fs_ind»)) ne 0 (side .lastnz / 2) 0 (tns .state)
   found (record { side = side; tns = tns .value; pairs = pairs .value; range = pairs .state .range })
 
 -- a frame that was read: the pairs as their symbols and tail bits say, the `ne` lines as they are returned, the residual list, and

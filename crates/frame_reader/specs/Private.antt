@@ -49,7 +49,7 @@ tablesOf lookup frequencies orders coefficients =
 abbrev pub readCoded : Configuration → Tables → ℕ → ℕ → SideInfo → DecoderState → Reading Data
 readCoded k t bits ne side state =
     next (readTns (t .orders) (t .coefficients) (weightingRow (k .duration) bits) (side .«tns_first») (side .«tns_second») state)
-    (λ tns. next (readPairs (t .lookup) (t .frequencies) (eqb (side .lsb) 1) (rateFlag bits (k .«fs_ind»)) ne 0 (side .lastnz / 2) 0 (tns .state))
+    (λ tns. next (readPairs (t .lookup) (t .frequencies) (eqb (k .reading) 1) (eqb (side .lsb) 1) (rateFlag bits (k .«fs_ind»)) ne 0 (side .lastnz / 2) 0 (tns .state))
     (λ pairs. found (record { side = side; tns = tns .value; pairs = pairs .value; range = pairs .state .range })))
 
 -- a whole frame behind the checks 1 to 4

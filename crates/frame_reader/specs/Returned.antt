@@ -4,7 +4,7 @@ use mathlib.Core.Bool.{Bool}
 use mathlib.Core.List.{List, _++_}
 use lib.ListN.{length, getD, replicate}
 use lib.IntN.{ℤ, pos}
-use Rattle.common.specs.Reply.{Reply, Answer, accepted, refused, andThen, outsideLimits, wrongLength, tablesFail, wrongCount, bandwidthTooLarge, lastnzTooLarge, jointTooLarge25, jointTooLarge24, residualNegative}
+use Rattle.common.specs.Reply.{Reply, Answer, accepted, refused, andThen, outsideLimits, wrongLength, tablesFail, wrongCount, bandwidthTooLarge, lastnzTooLarge, jointTooLarge25, jointTooLarge24, residualNegative, fourteenEscapes}
 use Rattle.buffer_reader.specs.declared.Cursor.{Cursor}
 use Rattle.side_info.specs.declared.SideInfo.{SideInfo}
 use Rattle.coding.specs.Coding.{metOf}
@@ -13,7 +13,7 @@ use Rattle.residual_data.specs.Sums.{seed, zeroFlag}
 use Rattle.frame_reader.specs.Frame.{Frame, filledTo}
 use Rattle.frame_reader.specs.declared.Numbers.{Numbers}
 use Rattle.frame_reader.specs.declared.FrameError.{FrameError}
-use Rattle.frame_reader.specs.declared.FrameError.the-variants.{OutsideLimits, WrongLength, TablesFail, WrongCount, BandwidthIdxOutOfRange, LastNonZeroTupleGreaterThanYLen, PlcTriggerSns1OutOfRange, PlcTriggerSns2OutOfRange, Step, NegativeResidualNumBits}
+use Rattle.frame_reader.specs.declared.FrameError.the-variants.{OutsideLimits, WrongLength, TablesFail, WrongCount, BandwidthIdxOutOfRange, LastNonZeroTupleGreaterThanYLen, PlcTriggerSns1OutOfRange, PlcTriggerSns2OutOfRange, Step, FourteenEscapes, NegativeResidualNumBits}
 use Rattle.frame_reader.specs.declared.Outcome.{Outcome}
 use Rattle.frame_reader.specs.declared.Outcome.the-variants.{Read, Refused}
 
@@ -42,6 +42,7 @@ replyOf (LastNonZeroTupleGreaterThanYLen lastnz ne) = lastnzTooLarge lastnz ne
 replyOf (PlcTriggerSns1OutOfRange j) = jointTooLarge25 j
 replyOf (PlcTriggerSns2OutOfRange j) = jointTooLarge24 j
 replyOf (Step m) = metOf m
+replyOf (FourteenEscapes pair) = fourteenEscapes pair
 replyOf NegativeResidualNumBits = residualNegative
 
 abbrev pub outcomeOf : Outcome → Answer Numbers

@@ -6,7 +6,7 @@ use mathlib.Core.List.{[]}
 use lib.Dec.{eqb}
 use lib.ListN.{length, getD}
 use lib.IntN.{pos, natAbs}
-use Rattle.common.specs.Reply.{Answer, accepted, refused}
+use Rattle.common.specs.Reply.{Answer, accepted, refused, fourteenEscapes}
 use Rattle.spectral_data.specs.Spectral.{levelsOf}
 use Rattle.residual_data.specs.Residual.{nonzero}
 use Rattle.frame_reader.specs.Frame.{Frame}
@@ -24,7 +24,26 @@ pub record Magnitudes (x : Frame) : Type 0 where
   pub odds : (i : ℕ) → natAbs (getD (x .lines) (2 * i + 1) (pos 0)) ≤ 81919
   pub few : (i : ℕ) → getD (levelsOf (x .pairs)) i 0 < 14 → natAbs (getD (x .lines) (2 * i + 1) (pos 0)) ≤ 32767
 
+-- no pair was read with fourteen escapes
+abbrev pub FewEscapes : Frame → Type 0
+FewEscapes x = (p : ℕ) → getD (levelsOf (x .pairs)) p 0 < 14
+
+-- by request P4, of the standard reading: every line is -32,767 to 32,767
+abbrev pub WithinSixteen : Frame → Type 0
+WithinSixteen x = (i : ℕ) → natAbs (getD (x .lines) i (pos 0)) ≤ 32767
+
 -- a refusal, or a frame outside least-bit mode
 abbrev pub OutsideLeastBit : Answer Frame → Type 0
 OutsideLeastBit (accepted fr) = eqb (fr .side .lsb) 1 ≡ false
 OutsideLeastBit (refused q) = Unit {0}
+
+-- the crate reading's answer beside the standard reading's: one; or the standard's is 19, and where the crate's is a frame, the pair
+-- named has fourteen escapes in it
+pub data AlikeOrDamage (crate standard : Answer Frame) : Type 0 where
+  alike : crate ≡ standard → AlikeOrDamage crate standard
+  damage : (p : ℕ) → standard ≡ refused (fourteenEscapes p) → ((x : Frame) → crate ≡ accepted x → getD (levelsOf (x .pairs)) p 0 ≡ 14) → AlikeOrDamage crate standard
+
+-- any answer but 19
+abbrev pub NoDamage : Answer Frame → Type 0
+NoDamage (accepted fr) = Unit {0}
+NoDamage (refused q) = q .number ≡ 19 → ⊥

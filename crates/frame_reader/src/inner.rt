@@ -7,6 +7,7 @@ ghost use lib.ListN.{length, take, drop, replicate};
 ghost use lib.IntN.{ℤ, pos};
 ghost use Rattle.range_decoder.specs.Decoder.{rangePasses};
 ghost use Rattle.side_info.specs.Reader.{replyOf as sideReply};
+ghost use Rattle.spectral_data.specs.Private.{errorOf};
 ghost use Rattle.residual_data.specs.Private.{AtMost};
 ghost use Rattle.frame_reader.specs.Frame.{readData};
 ghost use Rattle.frame_reader.specs.Returned.{replyOf};
@@ -25,6 +26,7 @@ use residual_data::Available;
 use side_info::SideInfo;
 use side_info::fields::SideInfoError;
 use side_info::reader::SideRead;
+use spectral_data::inner::PairsError;
 use spectral_data::inner::PairsRead;
 use tns_data::inner::TnsRead;
 
@@ -68,6 +70,16 @@ fn of_length(b: BufferError) -> FrameError
         BufferError::WidthNotListed(width) => FrameError::WrongLength(width),
         BufferError::NoTailRoom(width, _) => FrameError::WrongLength(width),
         BufferError::PastEnd(head) => FrameError::WrongLength(head),
+    }
+}
+
+// The refusals of the pairs.
+fn of_pairs(e: PairsError) -> FrameError
+    ensures { λ r. ⌜ replyOf r ≡ errorOf e ⌝ }
+{
+    match e {
+        PairsError::Step(m) => FrameError::Step(m),
+        PairsError::FourteenEscapes(p) => FrameError::FourteenEscapes(p),
     }
 }
 
@@ -124,6 +136,7 @@ fn read_coded(
                 c,
                 lookup,
                 frequencies,
+                configuration.reading == 1,
                 side.lsb == 1,
                 rate,
                 ne,
@@ -131,7 +144,7 @@ fn read_coded(
                 lines,
                 levels,
             ) {
-                PairsRead::Refused(m) => DataRead::Refused(FrameError::Step(m)),
+                PairsRead::Refused(e) => DataRead::Refused(of_pairs(e)),
                 PairsRead::At(last, next) => {
                     let range = last.range;
                     DataRead::Read(

@@ -12,7 +12,7 @@ use common::configuration::Configuration;
 use common::configuration::FrameLines;
 use side_info::SideInfo;
 
-// Why a frame is refused, with the numbers of document 01: the reader's own checks, and the step that met 9 to 11.
+// Why a frame is refused, with the numbers of document 01: the reader's own checks, the step that met 9 to 11, and 19.
 pub enum FrameError {
     OutsideLimits,
     WrongLength(usize),
@@ -23,6 +23,7 @@ pub enum FrameError {
     PlcTriggerSns1OutOfRange(u32),
     PlcTriggerSns2OutOfRange(u32),
     Step(Met),
+    FourteenEscapes(usize),
     NegativeResidualNumBits,
 }
 

@@ -4,7 +4,7 @@ use mathlib.Core.Path.{_≡_, refl}
 use mathlib.Core.List.{[], _∷_, _++_}
 use lib.ListN.{replicate}
 use lib.IntN.{pos, negsuc}
-use Rattle.common.specs.Reply.{bit, inStep, lastnzTooLarge, noTailRoom}
+use Rattle.common.specs.Reply.{bit, inStep, lastnzTooLarge, noTailRoom, fourteenEscapes}
 use Rattle.common.specs.Tables.{total, allAtLeast, allAtMost, rowsPass}
 use Rattle.common.specs.Flat.{flatSet, tabulate}
 use Rattle.common.specs.Last.{lastBelow, floorLog2}
@@ -31,6 +31,11 @@ refused-text = refl
 pub step-text : refusedText 1 (inStep (bit 7 12) (noTailRoom 1 82)) ≡ ascii "frame 1 refused 9 1 82 bit 7 12\n"
 unfolding digits decimal spaced stepText replyText refusedText
 step-text = refl
+
+-- request P4: a refusal with a pair, in no step
+pub damage-text : refusedText 1 (fourteenEscapes 6) ≡ ascii "frame 1 refused 19 6\n"
+unfolding digits decimal spaced stepText replyText refusedText
+damage-text = refl
 
 -- a cursor is printed whole, whatever it is
 pub cursor-text : refusedText 4 (inStep (bit 4 2) (noTailRoom 1 18446744073709551615)) ≡ ascii "frame 4 refused 9 1 18446744073709551615 bit 4 2\n"

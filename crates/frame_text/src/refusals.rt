@@ -139,6 +139,7 @@ fn error(out: &mut [u8], at: usize, e: FrameError) -> usize
         FrameError::PlcTriggerSns1OutOfRange(j) => valued_u32(out, at, 7, j),
         FrameError::PlcTriggerSns2OutOfRange(j) => valued_u32(out, at, 8, j),
         FrameError::Step(m) => met(out, at, m),
+        FrameError::FourteenEscapes(pair) => valued(out, at, 19, pair),
         FrameError::NegativeResidualNumBits => bare(out, at, 12),
     }
 }

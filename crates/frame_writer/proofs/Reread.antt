@@ -20,9 +20,9 @@ use Rattle.contexts.proofs.Evened.{evened-even}
 use Rattle.coding.proofs.Keeps.{BothMoved, Keeps, keeps-onward}
 use Rattle.spectral_data.specs.Spectral.{Pair, Levels, readPairs, linesOf, levelsOf}
 use Rattle.spectral_data.specs.Sent.{pairAt, pairsOf}
-use Rattle.spectral_data.specs.Private.{Bounded, signsBy}
+use Rattle.spectral_data.specs.Private.{signsBy}
 use Rattle.spectral_data.proofs.Back.{earlyMagnitude, early-size}
-use Rattle.spectral_data.proofs.Bounds.{Meets, bitMissing, All, none, more, Pairs, signs-keep, pairs-keep, levels-going}
+use Rattle.spectral_data.proofs.Bounds.{Meets, bitMissing, Limited, All, none, more, Pairs, signs-keep, pairs-keep, levels-going}
 use Rattle.residual_data.specs.Residual.{larger, lateLine, lateFrom}
 use Rattle.frame_reader.proofs.Magnitudes.{EvenPair}
 
@@ -38,18 +38,18 @@ above z low part n l e =
     let turned : natAbs z ≡ part * 2 ^ n + low = omega arith in
     ap (λ (m : ℕ). m / 2 ^ n) turned ∙ high part n l
 
-signs-whole : (p : ℕ) (l : Levels) → Bounded l → Keeps BothMoved Meets WholePair (signsBy p l)
-signs-whole p l b =
-    signs-keep Meets WholePair p l (λ tail. bitMissing p (l .escapes) tail (b .few))
+signs-whole : (standard : Bool) (p : ℕ) (l : Levels) → Limited standard l → Keeps BothMoved (Meets standard) WholePair (signsBy p l)
+signs-whole standard p l (b, fewer) =
+    signs-keep (Meets standard) WholePair p l (λ tail. bitMissing p (l .escapes) tail (b .few))
     (λ first second q r. record {
       first = above first (l .lowFirst) (firstPart (l .last)) (l .escapes) (b .firstLow) q;
       second = above second (l .lowSecond) (secondPart (l .last)) (l .escapes) (b .secondLow) r;
     })
 
-pub pairs-whole : (lookup frequencies : List ℕ) → lookupPasses lookup ≡ true → partPasses 64 17 frequencies ≡ true → (lsb : Bool) (rate ne p n context : ℕ) → Keeps BothMoved Meets (Pairs WholePair n) (readPairs lookup frequencies lsb rate ne p n context)
-pairs-whole lookup frequencies looked rows lsb =
-    pairs-keep Meets WholePair lookup frequencies lsb
-    (λ p t. keeps-onward Meets Bounded WholePair _ _ (levels-going lookup frequencies looked rows lsb p t 14 0 0 0 refl (omega arith) (omega arith)) (signs-whole p))
+pub pairs-whole : (lookup frequencies : List ℕ) → lookupPasses lookup ≡ true → partPasses 64 17 frequencies ≡ true → (standard lsb : Bool) (rate ne p n context : ℕ) → Keeps BothMoved (Meets standard) (Pairs WholePair n) (readPairs lookup frequencies standard lsb rate ne p n context)
+pairs-whole lookup frequencies looked rows standard lsb =
+    pairs-keep (Meets standard) WholePair lookup frequencies standard lsb
+    (λ p t. keeps-onward (Meets standard) (Limited standard) WholePair _ _ (levels-going lookup frequencies looked rows standard lsb p t 14 0 0 0 refl (λ is. omega arith) (omega arith) (omega arith)) (signs-whole standard p))
 
 -- ---- a pair again
 

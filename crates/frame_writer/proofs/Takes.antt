@@ -1,6 +1,6 @@
 -- Issue 13's second theorem, `taken`: what the reader returns passes the writer's checks. The stages that read it took the bits and the
 -- symbols that its record, filters and pairs have when they are written, so what passed 12 passes 16. Assumes nothing.
-use Prim.Native.Nat.{ℕ, zero, suc, _+_, _-_, _*_, _/_, _%_, _≤_, _<_}
+use Prim.Native.Nat.{ℕ, zero, suc, _+_, _-_, _*_, _/_, _≤_, _<_}
 use mathlib.Core.Path.{_≡_, refl, sym, ap, subst, _∙_}
 use mathlib.Core.Bool.{Bool, true, false, cond, not, _&&_}
 use mathlib.Core.List.{List, _++_}
@@ -15,7 +15,7 @@ use Rattle.common.specs.Last.{floorLog2}
 use Rattle.common.specs.Reply.{start, Answer, accepted, given, andThen, tablesFail, wrongCount, wrongLength, headPastEnd, residualNegative}
 use Rattle.common.specs.Tables.{Tables, tablesPass}
 use Rattle.common.specs.declared.configuration.Configuration.{Configuration}
-use Rattle.common.proofs.Bools.{by-test, and-both, or-first-fails, and-first-fails, and-second-fails}
+use Rattle.common.proofs.Bools.{by-test, and-right, and-both, or-first-fails, and-first-fails, and-second-fails}
 use Rattle.common.proofs.Configurations.{frame-known, frame-ranges}
 use Rattle.common.proofs.Replies.{accepted-same, given-split, then-split, within-split}
 use Rattle.common.proofs.Sets.{lookup-passed, frequencies-passed, orders-passed, coefficients-passed}
@@ -59,13 +59,13 @@ use Rattle.residual_data.specs.Residual.{usedBits, available, nonzero, escapedB
 use Rattle.residual_data.proofs.Lates.{late-length}
 use Rattle.frame_reader.specs.Frame.{Data, Frame, startIn, filledTo, readData, withResidual, withLate, finished, readFrame}
 use Rattle.frame_reader.specs.Private.{readOn}
-use Rattle.frame_reader.specs.Stated.{Listed, Magnitudes}
+use Rattle.frame_reader.specs.Stated.{Listed}
 use Rattle.frame_reader.proofs.Data.{Behind, data-behind, weighting-most}
 use Rattle.frame_reader.proofs.Magnitudes.{EvenPair}
-use Rattle.frame_reader.proofs.Theorems.{residual-listed, lines-within}
+use Rattle.frame_reader.proofs.Theorems.{residual-listed, lines-within, within-sixteen, few-escapes}
 use Rattle.frame_reader.proofs.Whole.{judged}
 use Rattle.frame_writer.specs.Frame.{Content, symbolsOf, fieldsBits, leastBit, earlyBits, reserved, tailBits, fieldsPass, lineFails, firstFailing, writeFrame}
-use Rattle.frame_writer.specs.Taken.{contentOf, FewEscapes, SameEscapes, StandardLate, Taken}
+use Rattle.frame_writer.specs.Taken.{contentOf, FewInCrate, SameEscapes, StandardLate, Taken}
 use Rattle.frame_writer.proofs.Fields.{fields-bits-length}
 use Rattle.frame_writer.proofs.Lines.{first-behind}
 use Rattle.frame_writer.proofs.Owners.{symbols-given}
@@ -111,7 +111,7 @@ module _ (k : Configuration) (t : Tables) (f : List ℕ) (n : ℕ) (lines : fram
 
   module _ (s : SideInfo) (b : Cursor) (sided : readAll (k .«fs_ind») n f origin ≡ accepted (s, b)) (y : DecoderState × Cursor) (started : startIn f b ≡ accepted y)
       (tn : Coded Tns × Cursor) (tnsRead : readTns (t .orders) (t .coefficients) weighting (s .«tns_first») (s .«tns_second») (y .0) f (y .1) ≡ accepted tn)
-      (pr : Coded (List Pair) × Cursor) (pairsRead : readPairs (t .lookup) (t .frequencies) (eqb (s .lsb) 1) (rateFlag bits (k .«fs_ind»)) n 0 (s .lastnz / 2) 0 (tn .0 .state) f (tn .1) ≡ accepted pr) where
+      (pr : Coded (List Pair) × Cursor) (pairsRead : readPairs (t .lookup) (t .frequencies) (eqb (k .reading) 1) (eqb (s .lsb) 1) (rateFlag bits (k .«fs_ind»)) n 0 (s .lastnz / 2) 0 (tn .0 .state) f (tn .1) ≡ accepted pr) where
     abbrev content : List ℤ → List ℕ → Content
     content ls rs =
         record {
@@ -151,7 +151,7 @@ module _ (k : Configuration) (t : Tables) (f : List ℕ) (n : ℕ) (lines : fram
     pub pairs-kept : All WholePair (pr .0 .value)
     pairs-kept =
         let ok = tns-behind (t .orders) (t .coefficients) weighting (orders-passed t tables) (coefficients-passed t tables) weighting-low (s .«tns_first») (s .«tns_second») (y .0) f (y .1) short range-there tnsRead .range in
-        keeps-at (pairs-whole (t .lookup) (t .frequencies) (lookup-passed t tables) (frequencies-passed t tables) (eqb (s .lsb) 1) (rateFlag bits (k .«fs_ind»)) n 0 (s .lastnz / 2) 0) (tn .0 .state) f (tn .1) short ok (both-here f (tn .1)) pairsRead .known .each
+        keeps-at (pairs-whole (t .lookup) (t .frequencies) (lookup-passed t tables) (frequencies-passed t tables) (eqb (k .reading) 1) (eqb (s .lsb) 1) (rateFlag bits (k .«fs_ind»)) n 0 (s .lastnz / 2) 0) (tn .0 .state) f (tn .1) short ok (both-here f (tn .1)) pairsRead .known .each
 
     module _ (ls : List ℤ) (rs : List ℕ) (modest : Modest ls) (again : pr .0 .value ≡ pairsOf (eqb (s .lsb) 1) ls 0 (s .lastnz / 2)) where
       abbrev filters : List Sent
@@ -182,7 +182,7 @@ module _ (k : Configuration) (t : Tables) (f : List ℕ) (n : ℕ) (lines : fram
       -- and so do the pairs', with their bits
       behind-all : (AtInterval (pr .0 .state) (pr .1) (behind whole symbols) 3) × (pr .1 .tail ≡ tn .1 .tail + length (pairsBits (eqb (s .lsb) 1) ls 0 (s .lastnz / 2)))
       behind-all =
-          let r = pairs-retrace (t .lookup) (t .frequencies) (lookup-passed t tables) (frequencies-passed t tables) (eqb (s .lsb) 1) ls modest (rateFlag bits (k .«fs_ind»)) n 0 (s .lastnz / 2) 0 (tn .0 .state) f (tn .1) pr again pairsRead in
+          let r = pairs-retrace (t .lookup) (t .frequencies) (lookup-passed t tables) (frequencies-passed t tables) (eqb (k .reading) 1) (eqb (s .lsb) 1) ls modest (rateFlag bits (k .«fs_ind»)) n 0 (s .lastnz / 2) 0 (tn .0 .state) f (tn .1) pr again pairsRead in
           let one : behind whole symbols ≡ behind (behind whole filters) pairs = ap (behind whole) symbols-are ∙ behind-append whole filters pairs in
           (subst (λ (i : Interval). AtInterval (pr .0 .state) (pr .1) i 3) (sym one) (r .place (behind whole filters) 3 behind-filters), r .tail)
 
@@ -239,15 +239,6 @@ module _ (reading : ℕ) (f : List ℕ) (xs : List Pair) (tail room : ℕ) where
       subst (λ (i : ℕ). Again lsb ls i (getD xs q nothing)) (sym (zero-add q))
       (record { escapes = same q l ∙ level-at xs q; first = again .0; second = again .1 }))
 
--- every place is an even or an odd one
-modest-lines : (x : Frame) → Magnitudes x → FewEscapes x → Modest (x .lines)
-modest-lines x m few k =
-    by-test (eqb (k % 2) 0)
-    (λ e. let at : k ≡ 2 * (k / 2) = omega (arith, eqb-true (k % 2) 0 e) in
-    subst (λ (i : ℕ). magnitudeAt (x .lines) i ≤ 32767) (sym at) (m .evens (k / 2)))
-    (λ e. let at : k ≡ 2 * (k / 2) + 1 = omega (arith, eqb-false (k % 2) 0 e) in
-    subst (λ (i : ℕ). magnitudeAt (x .lines) i ≤ 32767) (sym at) (m .few (k / 2) (few (k / 2))))
-
 -- 14
 lines-taken : (x : Frame) → Modest (x .lines) → ((i : ℕ) → x .side .lastnz ≤ i → magnitudeAt (x .lines) i ≡ 0) → firstFailing (contentOf x) ≡ length (x .lines)
 lines-taken x modest zeros =
@@ -284,7 +275,6 @@ pub record Rewritten (k : Configuration) (t : Tables) (f : List ℕ) (n : ℕ) (
 -- what is shown of a frame by its parts
 record Parts (k : Configuration) (t : Tables) (f : List ℕ) (n : ℕ) (x : Frame) : Type 0 where
   count : length (x .lines) ≡ n
-  paired : length (x .pairs) ≡ x .side .lastnz / 2
   fields : fieldsPass (k .«fs_ind») n (contentOf x) ≡ true
   zeros : (i : ℕ) → x .side .lastnz ≤ i → magnitudeAt (x .lines) i ≡ 0
   again : Modest (x .lines) → StandardLate k x → SameEscapes x → Rewritten k t f n x
@@ -301,11 +291,11 @@ module _ (k : Configuration) (t : Tables) (f : List ℕ) (n : ℕ) (lines : fram
   -- what data that was read makes
   abbrev Made : Data × Cursor → Type 0
   Made r =
-      Behind (k .«fs_ind») n f r → usedBits (r .1) (r .0 .range) ≤ 8 * length f → (lsb : Bool) → eqb (r .0 .side .lsb) 1 ≡ lsb → Parts k t f n (byMode (k .reading) n f r (8 * length f - usedBits (r .1) (r .0 .range)) lsb)
+      Behind (k .reading) (k .«fs_ind») n f r → usedBits (r .1) (r .0 .range) ≤ 8 * length f → (lsb : Bool) → eqb (r .0 .side .lsb) 1 ≡ lsb → Parts k t f n (byMode (k .reading) n f r (8 * length f - usedBits (r .1) (r .0 .range)) lsb)
 
   module _ (s : SideInfo) (b : Cursor) (sided : readAll (k .«fs_ind») n f origin ≡ accepted (s, b)) (y : DecoderState × Cursor) (started : startIn f b ≡ accepted y)
       (tn : Coded Tns × Cursor) (tnsRead : readTns (t .orders) (t .coefficients) (weightingRow (k .duration) (8 * length f)) (s .«tns_first») (s .«tns_second») (y .0) f (y .1) ≡ accepted tn)
-      (pr : Coded (List Pair) × Cursor) (pairsRead : readPairs (t .lookup) (t .frequencies) (eqb (s .lsb) 1) (rateFlag (8 * length f) (k .«fs_ind»)) n 0 (s .lastnz / 2) 0 (tn .0 .state) f (tn .1) ≡ accepted pr) where
+      (pr : Coded (List Pair) × Cursor) (pairsRead : readPairs (t .lookup) (t .frequencies) (eqb (k .reading) 1) (eqb (s .lsb) 1) (rateFlag (8 * length f) (k .«fs_ind»)) n 0 (s .lastnz / 2) 0 (tn .0 .state) f (tn .1) ≡ accepted pr) where
     abbrev xs : List Pair
     xs = pr .0 .value
 
@@ -315,7 +305,7 @@ module _ (k : Configuration) (t : Tables) (f : List ℕ) (n : ℕ) (lines : fram
     abbrev room : ℕ
     room = 8 * length f - usedBits (pr .1) (pr .0 .state .range)
 
-    module _ (known : Behind (k .«fs_ind») n f read) (fits : usedBits (pr .1) (pr .0 .state .range) ≤ 8 * length f) (lsb : Bool) (is : eqb (s .lsb) 1 ≡ lsb) where
+    module _ (known : Behind (k .reading) (k .«fs_ind») n f read) (fits : usedBits (pr .1) (pr .0 .state .range) ≤ 8 * length f) (lsb : Bool) (is : eqb (s .lsb) 1 ≡ lsb) where
       abbrev ls : List ℤ
       ls = linesBy (k .reading) f xs (pr .1 .tail) room lsb
 
@@ -351,7 +341,6 @@ module _ (k : Configuration) (t : Tables) (f : List ℕ) (n : ℕ) (lines : fram
             let most = known .limits .last in
             record {
               count = omega (arith, length-append ls (replicate (n - length ls) (pos 0)), length-replicate (n - length ls) (pos 0), size, most);
-              paired = known .count;
               fields = fields-taken k t f n lines tables s b sided y started tn tnsRead pr pairsRead (filledTo n ls) rs;
               zeros = λ i h. ap natAbs (filled-at ls (n - length ls) i ∙ List·getD-eq-default ls (pos 0) (omega (arith, size, h)));
               again = rewritten late;
@@ -366,7 +355,7 @@ module _ (k : Configuration) (t : Tables) (f : List ℕ) (n : ℕ) (lines : fram
       let a = then-split (readAll (k .«fs_ind») n f origin) _ e in
       let st = then-split (startIn f (a .0 .1)) _ (a .2) in
       let tr = then-split (readTns (t .orders) (t .coefficients) (weightingRow (k .duration) (8 * length f)) (a .0 .0 .«tns_first») (a .0 .0 .«tns_second») (st .0 .0) f (st .0 .1)) _ (st .2) in
-      let pr = then-split (readPairs (t .lookup) (t .frequencies) (eqb (a .0 .0 .lsb) 1) (rateFlag (8 * length f) (k .«fs_ind»)) n 0 (a .0 .0 .lastnz / 2) 0 (tr .0 .0 .state) f (tr .0 .1)) _ (tr .2) in
+      let pr = then-split (readPairs (t .lookup) (t .frequencies) (eqb (k .reading) 1) (eqb (a .0 .0 .lsb) 1) (rateFlag (8 * length f) (k .«fs_ind»)) n 0 (a .0 .0 .lastnz / 2) 0 (tr .0 .0 .state) f (tr .0 .1)) _ (tr .2) in
       subst Made (accepted-same (pr .2)) (made (a .0 .0) (a .0 .1) (a .1) (st .0) (st .1) (tr .0) (tr .1) (pr .0) (pr .1))
 
 -- ---- the theorem
@@ -395,28 +384,35 @@ module _ (k : Configuration) (t : Tables) (count : ℕ) (f : List ℕ) (x : Fram
       subst (Parts k t f n) (ap (λ (room : ℕ). byMode (k .reading) n f (s .0) room (eqb (s .0 .0 .side .lsb) 1)) (accepted-same (g .1)) ∙ accepted-same (u .2))
       (data-made k t f n lines tables (s .0) (s .1) known (ltb-false (8 * length f) (usedBits (s .0 .1) (s .0 .0 .range)) (g .0)) (eqb (s .0 .0 .side .lsb) 1) refl)
 
-  -- it has a pair for each two lines up to lastnz
-  pub pairs-counted : length (x .pairs) ≡ x .side .lastnz / 2
-  pairs-counted = parts .paired
+  -- no line is above 32,767: in the standard reading none can be
+  modest : FewInCrate k x → Modest (x .lines)
+  modest few =
+      let passes = frame-known k (length f) (checked .0) .0 in
+      let low : k .reading ≤ 1 = leb-true (k .reading) 1 (and-right (leb (k .«fs_ind») 4 && leb (k .duration) 1) (leb (k .reading) 1) passes) in
+      within-sixteen x (lines-within k t count f x e)
+      (by-test (eqb (k .reading) 1) (λ is. few-escapes k t count f x e (eqb-true (k .reading) 1 is)) (λ is. few (omega (arith, low, eqb-false (k .reading) 1 is))))
 
   -- what was read with the escapes that its lines have is written as it was read
-  pub taken-again : StandardLate k x → FewEscapes x → SameEscapes x → Rewritten k t f n x
-  taken-again standard few same = parts .again (modest-lines x (lines-within k t count f x e) few) standard same
+  pub taken-again : StandardLate k x → FewInCrate k x → SameEscapes x → Rewritten k t f n x
+  taken-again standard few same = parts .again (modest few) standard same
 
   -- whatever is read passes 4, 13 and 15, and 14 and 16 where it was read with the escapes that its lines have
   pub taken : Taken k t (length f) x
   taken =
-      let magnitudes = lines-within k t count f x e in
       record {
         count = parts .count;
         fields = parts .fields;
-        lines = λ few. lines-taken x (modest-lines x magnitudes few) (parts .zeros);
+        lines = λ few. lines-taken x (modest few) (parts .zeros);
         residual = residual-taken (8 * length f) x (residual-listed k t count f x e);
         room = λ standard few same. omega (arith, taken-again standard few same .all);
       }
 
+  -- in the standard reading 14 is passed by whatever was read
+  pub standard-taken : k .reading ≡ 1 → firstFailing (contentOf x) ≡ length (x .lines)
+  standard-taken is = taken .lines (λ zero. absurd (omega (arith, is, zero)))
+
   -- so the writer takes it back into a frame of as many bytes
-  pub taken-written : StandardLate k x → FewEscapes x → SameEscapes x →
+  pub taken-written : StandardLate k x → FewInCrate k x → SameEscapes x →
       let w = contentOf x in
       writeFrame k t w (length f) ≡ accepted (laid (k .reading) (length f) (symbolsOf k t (8 * length f) n w) (tailBits k t (8 * length f) n w))
   taken-written standard few same =

@@ -11,6 +11,7 @@ use Rattle.tns_data.specs.Tns.{sixteenOf}
 use Rattle.spectral_data.specs.Spectral.{levelsOf}
 use Rattle.residual_data.specs.Residual.{nonzero}
 use Rattle.frame_reader.specs.Frame.{Frame}
+use Rattle.frame_reader.specs.Stated.{FewEscapes}
 use Rattle.frame_writer.specs.Frame.{Content, symbolsOf, leastBit, earlyBits, reserved, fieldsPass, firstFailing}
 
 abbrev pub contentOf : Frame → Content
@@ -24,9 +25,9 @@ contentOf x =
       residual = x .residual;
     }
 
--- no pair was read with fourteen escapes: only such a pair has a line above 32,767
-abbrev pub FewEscapes : Frame → Type 0
-FewEscapes x = (p : ℕ) → getD (levelsOf (x .pairs)) p 0 < 14
+-- in the crate reading no pair was read with fourteen escapes: only such a pair has a line above 32,767. The standard reading has none
+abbrev pub FewInCrate : Configuration → Frame → Type 0
+FewInCrate k x = k .reading ≡ 0 → FewEscapes x
 
 -- each pair was read with the escapes that its lines, as they are returned, have: a frame may spend more
 abbrev pub SameEscapes : Frame → Type 0
@@ -42,8 +43,8 @@ pub record Taken (k : Configuration) (t : Tables) (bytes : ℕ) (x : Frame) : Ty
   -- 13
   pub fields : fieldsPass (k .«fs_ind») (ne (k .duration) (k .«fs_ind»)) (contentOf x) ≡ true
   -- 14
-  pub lines : FewEscapes x → firstFailing (contentOf x) ≡ length (x .lines)
+  pub lines : FewInCrate k x → firstFailing (contentOf x) ≡ length (x .lines)
   -- 15
   pub residual : length (x .residual) ≤ nonzero (x .lines)
   -- 16: the bits that the content needs are those that were read
-  pub room : StandardLate k x → FewEscapes x → SameEscapes x → length (earlyBits (k .«fs_ind») (ne (k .duration) (k .«fs_ind»)) (contentOf x)) + reserved (symbolsOf k t (8 * bytes) (ne (k .duration) (k .«fs_ind»)) (contentOf x)) ≤ 8 * bytes
+  pub room : StandardLate k x → FewInCrate k x → SameEscapes x → length (earlyBits (k .«fs_ind») (ne (k .duration) (k .«fs_ind»)) (contentOf x)) + reserved (symbolsOf k t (8 * bytes) (ne (k .duration) (k .«fs_ind»)) (contentOf x)) ≤ 8 * bytes

@@ -121,6 +121,7 @@ pub(crate) fn place(e: FrameError) -> [usize; 5]
             [n, 0, 0, 0, 0]
         }
         FrameError::Step(m) => met_place(m),
+        FrameError::FourteenEscapes(pair) => [pair, 0, 0, 0, 0],
         FrameError::NegativeResidualNumBits => [0; 5],
     }
 }
@@ -161,6 +162,7 @@ pub(crate) fn number(e: FrameError) -> u32
         FrameError::PlcTriggerSns1OutOfRange(_) => 7,
         FrameError::PlcTriggerSns2OutOfRange(_) => 8,
         FrameError::Step(m) => met_number(m),
+        FrameError::FourteenEscapes(_) => 19,
         FrameError::NegativeResidualNumBits => 12,
     }
 }

@@ -5,10 +5,9 @@ use mathlib.Core.Path.{_≡_, refl, sym, ap, _∙_}
 use mathlib.Core.Bool.{Bool, true, false, cond}
 use mathlib.Core.List.{List, []}
 use native.Mathlib.Omega.{arith}
-use borrow.Author.Tests.{ltb-true, ltb-false}
-use lib.Dec.{ltb, eqb}
+use lib.Dec.{eqb}
 use lib.IntN.{ℤ, pos}
-use lib.ListN.{length, take, replicate, List·getD-eq-default}
+use lib.ListN.{length, take, replicate}
 use Rattle.common.specs.Reply.{accepted}
 use Rattle.common.specs.Tables.{Tables}
 use Rattle.common.specs.declared.configuration.Configuration.{Configuration}
@@ -20,17 +19,16 @@ use Rattle.tns_data.specs.Tns.{Tns}
 use Rattle.tns_data.proofs.Image.{sixteen-length}
 use Rattle.spectral_data.specs.Sent.{pairsOf}
 use Rattle.spectral_data.specs.Spectral.{Pair, linesOf, levelsOf}
-use Rattle.spectral_data.proofs.Lines.{levels-length}
 use Rattle.residual_data.specs.Residual.{AllLate, lateFrom, nonzero, residualList, escapedBy}
 use Rattle.residual_data.specs.Sent.{residualBits, latePairs, earlyLines, cutLine, backLines}
 use Rattle.residual_data.proofs.Residuals.{residual-length}
 use Rattle.residual_data.proofs.Again.{residual-again, standard-again}
 use Rattle.frame_reader.specs.Frame.{Data, Frame, filledTo, withLate, withResidual}
 use Rattle.frame_writer.specs.Frame.{Content, leastBit, lateBits}
-use Rattle.frame_writer.specs.Taken.{contentOf, FewEscapes, SameEscapes}
+use Rattle.frame_writer.specs.Taken.{contentOf, FewInCrate, SameEscapes}
 use Rattle.frame_writer.proofs.Earlies.{early-lines}
-use Rattle.frame_writer.proofs.Takes.{Rewritten, checked, pairs-counted, taken-again, taken-written}
-use Rattle.round_trip.specs.RoundTrip.{linesIn, earlyLength, lateRoom, returned, returnedLines, returnedList, WrittenIsRead, LeastEscapes, ReadAgain}
+use Rattle.frame_writer.proofs.Takes.{Rewritten, checked, taken-again, taken-written}
+use Rattle.round_trip.specs.RoundTrip.{linesIn, earlyLength, lateRoom, returned, returnedLines, returnedList, WrittenIsRead, ReadAgain}
 
 -- a choice by a test that holds, and by one that does not
 chosen : {A : Type 0} {b : Bool} (y z : A) → b ≡ true → cond b y z ≡ y
@@ -146,17 +144,9 @@ module _ (k : Configuration) (t : Tables) (f : List ℕ) (x : Frame) (standard :
   pub read-back : returned k t w (length f) ≡ x
   read-back = by-test (leastBit w) back-late back-plain
 
--- behind the last pair there is no level
-few-escapes : (x : Frame) → length (x .pairs) ≡ x .side .lastnz / 2 → LeastEscapes x → FewEscapes x
-few-escapes x counted least p =
-    by-test (ltb p (x .side .lastnz / 2))
-    (λ e. least p (ltb-true p (x .side .lastnz / 2) e) .0)
-    (λ e. omega (arith, List·getD-eq-default (levelsOf (x .pairs)) 0 {n = p} (omega (arith, levels-length (x .pairs), counted, ltb-false p (x .side .lastnz / 2) e))))
-
 pub read-again : WrittenIsRead 1 → ReadAgain 1
-read-again written k t count f x standard bytes e least =
-    let few = few-escapes x (pairs-counted k t count f x e) least in
-    let same : SameEscapes x = λ p h. least p h .1 in
+read-again written k t count f x standard bytes e same =
+    let few : FewInCrate k x = λ zero. absurd (omega (arith, standard, zero)) in
     let wrote = taken-written k t count f x e (λ h. standard) few same in
     record {
       frame = _;

@@ -6,6 +6,7 @@ use mathlib.Core.Bool.{true}
 use mathlib.Core.List.{List, [], _++_}
 use native.Mathlib.Omega.{arith}
 use native.Mathlib.Nat.{add-zero, zero-add}
+use lib.Dec.{eqb}
 use lib.ListN.{length, length-append}
 use Rattle.common.specs.Reply.{Answer, accepted}
 use Rattle.common.specs.Tables.{Tables}
@@ -166,14 +167,14 @@ module _ (k : Configuration) (t : Tables) (w : Content) (g : List ℕ) (fit : Fi
     abbrev PairsCame : Type 0
     PairsCame =
         Came (asked (w .lines) m) (EarlyRoom k t w g)
-        (readPairs (t .lookup) (t .frequencies) (leastBit w) rate n 0 m 0 (stateAt g 0 (behind whole tns)) g (placeAt (behind whole tns) (length fields)))
+        (readPairs (t .lookup) (t .frequencies) (eqb (k .reading) 1) (leastBit w) rate n 0 m 0 (stateAt g 0 (behind whole tns)) g (placeAt (behind whole tns) (length fields)))
         (accepted (record { value = pairsOf (leastBit w) (w .lines) 0 m; state = stateAt g 0 (behind (behind whole tns) (sentUpTo m)) }, placeAt (behind (behind whole tns) (sentUpTo m)) (length fields + length (bitsUpTo m))))
 
     pairs-read : PairsCame
     pairs-read =
         let h = subst (λ (xs : List Sent). Holding g (behind whole tns) (length fields) xs (bitsUpTo m ++ later)) symbols-are (subst (Holding g (behind whole tns) (length fields) (sentUpTo pairs)) bits-are held-on) in
         came-weaker roomy
-        (pairs-given g (bears .bytes) short (t .lookup) (t .frequencies) (leastBit w) rate n (w .lines) modest m 0 m 0 (omega arith) .at (behind whole tns) (length fields) rest later h)
+        (pairs-given g (bears .bytes) short (t .lookup) (t .frequencies) (eqb (k .reading) 1) (leastBit w) rate n (w .lines) modest m 0 m 0 (omega arith) .at (behind whole tns) (length fields) rest later h)
 
     -- the stages together
     up-to : PairsCame →

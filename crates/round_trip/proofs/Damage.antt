@@ -70,15 +70,15 @@ last-refused (refused q) y f g {r} h e =
     let is : refused q ≡ refused r = ap (λ a. refused (refusalIn q a)) e in
     rw (h is) refl
 
-module _ (lookup frequencies : List ℕ) (lsb : Bool) (rate ne : ℕ) (f : List ℕ) where
-  pairs-refused : (p n m context : ℕ) (s : DecoderState) (c : Cursor) {r : Reply} → n ≤ m → readPairs lookup frequencies lsb rate ne p n context s f c ≡ refused r → readPairs lookup frequencies lsb rate ne p m context s f c ≡ refused r
+module _ (lookup frequencies : List ℕ) (standard lsb : Bool) (rate ne : ℕ) (f : List ℕ) where
+  pairs-refused : (p n m context : ℕ) (s : DecoderState) (c : Cursor) {r : Reply} → n ≤ m → readPairs lookup frequencies standard lsb rate ne p n context s f c ≡ refused r → readPairs lookup frequencies standard lsb rate ne p m context s f c ≡ refused r
   unfolding readPairs
   pairs-refused p zero m context s c few e = absurd (no-refusal e)
   pairs-refused p (suc n) zero context s c few e = absurd (omega arith)
   pairs-refused p (suc n) (suc m) context s c few e =
-      next-refused (readPair lookup frequencies lsb p (lookupStart context rate ne (2 * p)) s f c) _ _
+      next-refused (readPair lookup frequencies standard lsb p (lookupStart context rate ne (2 * p)) s f c) _ _
       (λ y. let after = nextContext context (firstPart (y .0 .value .last)) (secondPart (y .0 .value .last)) (y .0 .value .escapes) in
-      last-refused (readPairs lookup frequencies lsb rate ne (p + 1) n after (y .0 .state) f (y .1)) (readPairs lookup frequencies lsb rate ne (p + 1) m after (y .0 .state) f (y .1)) _ _
+      last-refused (readPairs lookup frequencies standard lsb rate ne (p + 1) n after (y .0 .state) f (y .1)) (readPairs lookup frequencies standard lsb rate ne (p + 1) m after (y .0 .state) f (y .1)) _ _
       (pairs-refused (p + 1) n m after (y .0 .state) (y .1) (omega arith))) e
 
 up-to-refused : (k : Configuration) (t : Tables) (bits ne m n : ℕ) (f : List ℕ) (c : Cursor) {r : Reply} → m ≤ n → readUpTo k t bits ne m f c ≡ refused r → readUpTo k t bits ne n f c ≡ refused r
@@ -86,8 +86,8 @@ up-to-refused k t bits ne m n f c few e =
     next-refused (readAll (k .«fs_ind») ne f c) _ _
     (λ a. next-refused (startIn f (a .1)) _ _
     (λ s. next-refused (readTns (t .orders) (t .coefficients) (weightingRow (k .duration) bits) (a .0 .«tns_first») (a .0 .«tns_second») (s .0) f (s .1)) _ _
-    (λ y. let pairs : ℕ → Answer (Coded (List Pair) × Cursor) = λ q. readPairs (t .lookup) (t .frequencies) (eqb (a .0 .lsb) 1) (rateFlag bits (k .«fs_ind»)) ne 0 q 0 (y .0 .state) f (y .1) in
-    last-refused (pairs m) (pairs n) _ _ (pairs-refused (t .lookup) (t .frequencies) (eqb (a .0 .lsb) 1) (rateFlag bits (k .«fs_ind»)) ne f 0 m n 0 (y .0 .state) (y .1) few)))) e
+    (λ y. let pairs : ℕ → Answer (Coded (List Pair) × Cursor) = λ q. readPairs (t .lookup) (t .frequencies) (eqb (k .reading) 1) (eqb (a .0 .lsb) 1) (rateFlag bits (k .«fs_ind»)) ne 0 q 0 (y .0 .state) f (y .1) in
+    last-refused (pairs m) (pairs n) _ _ (pairs-refused (t .lookup) (t .frequencies) (eqb (k .reading) 1) (eqb (a .0 .lsb) 1) (rateFlag bits (k .«fs_ind»)) ne f 0 m n 0 (y .0 .state) (y .1) few)))) e
 
 -- a refusal has one step
 abbrev pairIn : Step → ℕ

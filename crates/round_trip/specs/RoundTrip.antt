@@ -6,7 +6,7 @@ use mathlib.Core.Bool.{Bool, true, false, cond}
 use mathlib.Core.List.{List, [], _∷_, _++_, map}
 use lib.Dec.{eqb}
 use lib.IntN.{ℤ, natAbs}
-use lib.ListN.{length, take, replicate, getD}
+use lib.ListN.{length, take, replicate}
 use Rattle.common.specs.Configuration.{ne}
 use Rattle.common.specs.Reply.{bit, Answer, accepted, refused, inStep, noTailRoom, residualNegative}
 use Rattle.common.specs.Tables.{Tables}
@@ -22,14 +22,14 @@ use Rattle.range_encoder.specs.Interval.{Interval, whole, behind}
 use Rattle.sending.specs.Sending.{Owner, side, low, sign, residual, lowest, lateSign}
 use Rattle.tns_data.specs.Tns.{Tns, readTns, weightingRow}
 use Rattle.tns_data.specs.Sent.{tnsOf}
-use Rattle.spectral_data.specs.Spectral.{Pair, readPairs, linesOf, levelsOf}
+use Rattle.spectral_data.specs.Spectral.{Pair, readPairs, linesOf}
 use Rattle.spectral_data.specs.Sent.{pairsOf}
 use Rattle.residual_data.specs.Residual.{nonzero}
 use Rattle.residual_data.specs.Sent.{cutLine, backLines}
 use Rattle.frame_reader.specs.Depends.{symbolsOf as symbolsRead, SameSymbols}
 use Rattle.frame_reader.specs.Frame.{Data, Frame, startIn, readData, filledTo, readFrame}
 use Rattle.frame_writer.specs.Frame.{Content, symbolsOf, leastBit, earlyBits, lateBits, heldBack, tailBits, writeFrame}
-use Rattle.frame_writer.specs.Taken.{contentOf}
+use Rattle.frame_writer.specs.Taken.{contentOf, SameEscapes}
 use Rattle.frame_writer.specs.Whose.{Whose, head, tail, unused, placeOf}
 
 -- ---- 1. Written is read
@@ -134,7 +134,7 @@ readUpTo k t bits ne n = do
   fields ← readAll (k .«fs_ind») ne
   state ← startIn
   tns ← readTns (t .orders) (t .coefficients) (weightingRow (k .duration) bits) (fields .«tns_first») (fields .«tns_second») state
-  pairs ← readPairs (t .lookup) (t .frequencies) (eqb (fields .lsb) 1) (rateFlag bits (k .«fs_ind»)) ne 0 n 0 (tns .state)
+  pairs ← readPairs (t .lookup) (t .frequencies) (eqb (k .reading) 1) (eqb (fields .lsb) 1) (rateFlag bits (k .«fs_ind»)) ne 0 n 0 (tns .state)
   found (record { side = fields; tns = tns .value; pairs = pairs .value; range = pairs .state .range })
 
 -- the first n pairs of a frame are read, with the symbols that were written
@@ -180,18 +180,14 @@ SignsAreHarmless reading =
 
 -- ---- 4. Read again
 
--- each pair was read with the least escapes behind which its lines, as they are returned, fit; behind fourteen none do
-abbrev pub LeastEscapes : Frame → Type 0
-LeastEscapes x =
-    (p : ℕ) → p < x .side .lastnz / 2 → (getD (levelsOf (x .pairs)) p 0 < 14) × (escapesAt (x .lines) p ≡ getD (levelsOf (x .pairs)) p 0)
-
 -- what was read is written at the same length, and reads the same
 pub record Canonical (k : Configuration) (t : Tables) (bytes count : ℕ) (x : Frame) : Type 0 where
   pub frame : List ℕ
   pub written : writeFrame k t (contentOf x) bytes ≡ accepted frame
   pub again : readFrame k t count frame ≡ accepted x
 
+-- each pair was read with the escapes that its lines have, the least behind which they fit
 abbrev pub ReadAgain : ℕ → Type 0
 ReadAgain reading =
     (k : Configuration) (t : Tables) (count : ℕ) (f : List ℕ) (x : Frame) → k .reading ≡ reading → Bytes f →
-    readFrame k t count f ≡ accepted x → LeastEscapes x → Canonical k t (length f) count x
+    readFrame k t count f ≡ accepted x → SameEscapes x → Canonical k t (length f) count x

@@ -2,7 +2,7 @@
 -- the last symbol has what is left of it, and a sign stands exactly where the magnitude read so is above 0. Assumes nothing.
 use Prim.Native.Nat.{ℕ, zero, suc, _+_, _*_, _/_, _%_, _^_, _≤_, _<_}
 use mathlib.Core.Path.{_≡_, refl, sym, ap, subst, _∙_}
-use mathlib.Core.Bool.{Bool, true, false, cond, _&&_}
+use mathlib.Core.Bool.{Bool, true, false, cond, _&&_, true≢false}
 use mathlib.Core.List.{List, [], _∷_, _++_, append-nil, append-assoc}
 use native.Mathlib.Omega.{arith}
 use native.Mathlib.Nat.{add-zero, zero-add, mod-lt}
@@ -11,21 +11,22 @@ use lib.Dec.{ltb, eqb}
 use lib.IntN.{ℤ, pos, negℤ, natAbs}
 use lib.ListN.{length}
 use lib.Pow.{split, mod-pow-add, shr-shr}
-use Rattle.common.specs.Reply.{accepted, symbol, bit}
+use Rattle.common.specs.Reply.{Reply, accepted, symbol, bit, fourteenEscapes}
 use Rattle.common.specs.Tables.{rowAt}
-use Rattle.common.proofs.Bools.{by-test, same-ltb}
+use Rattle.common.proofs.Bools.{by-test, same-ltb, and-second-fails}
 use Rattle.contexts.specs.Contexts.{lookupStart, rowOf, escapeSymbol, shifted, escapes, firstPart, secondPart, pairSymbol, nextContext, contextBehind}
 use Rattle.contexts.specs.Lines.{lineAt, magnitudeAt, minus, escapesAt, earlyLine}
 use Rattle.contexts.proofs.Evened.{signedAs, signed-same, signed-zero, signed-evened}
 use Rattle.contexts.proofs.Magnitudes.{minus-low}
 use Rattle.contexts.proofs.Escapes.{Escaped, escapes-law, escapes-most, pair-symbol-low, first-back, second-back}
+use Rattle.buffer_reader.specs.Steps.{refusing}
 use Rattle.buffer_reader.specs.Tail.{Bytes}
 use Rattle.range_encoder.specs.Interval.{Sent, Interval, behind}
 use Rattle.range_encoder.specs.Runs.{AllPass}
 use Rattle.range_encoder.specs.Theory.{Within, Inside, stateAt, cursorAt}
 use Rattle.sending.specs.Sending.{Bit, sent, owned, low, sign, Stands}
-use Rattle.coding.specs.Coding.{done, onward, met, symbolBy, tailBitBy}
-use Rattle.spectral_data.specs.Spectral.{Levels, lowBits, readLevels, readSign, readPair, readPairs}
+use Rattle.coding.specs.Coding.{Coding, done, onward, met, symbolBy, tailBitBy}
+use Rattle.spectral_data.specs.Spectral.{Levels, lowBits, behindEscape, readLevels, readSign, readPair, readPairs}
 use Rattle.spectral_data.specs.Sent.{sentEscapes, sentPair, sentPairs, lowAt, lowsFrom, early, signAt, pairBits, pairsBits, pairAt, pairsOf}
 use Rattle.spectral_data.specs.Private.{signsBy, Modest}
 use Rattle.spectral_data.proofs.Sizes.{signed-size}
@@ -160,28 +161,37 @@ module _ (f : List ℕ) (bytes : Bytes f) (short : length f ≤ 65535) (At : ℕ
       rw (ne-eqb (suc level) 0 (omega arith), cleared-high a level, cleared-high b level)
       (bits-back p (suc level) asked (owned (low k (suc level)) (a / 2 ^ suc level % 2)) (owned (low (k + 1) (suc level)) (b / 2 ^ suc level % 2)) (bit-small a (suc level)) (bit-small b (suc level)))
 
-  module _ (lookup frequencies : List ℕ) (lsb : Bool) (p t : ℕ) where
+  -- an escape with a symbol behind it is not the fourteenth
+  refusing-back : {A : Type 0} (t : Bool) (r : Reply) (k : Coding A) {bits : List Bit} {a : A} → t ≡ false → Back f bytes short At k [] bits a → Back f bytes short At (λ s. refusing t r (k s)) [] bits a
+  refusing-back true r k e h = absurd (true≢false e)
+  refusing-back false r k e h = h
+
+  behind-back : (standard lsb : Bool) (p k a b level : ℕ) → level < 13 → At p level → Back f bytes short At {A = ℕ × ℕ} (behindEscape standard lsb p level) [] (lowAt lsb k a b level) (cleared lsb a / 2 ^ level % 2, cleared lsb b / 2 ^ level % 2)
+  behind-back standard lsb p k a b level few asked =
+      refusing-back (standard && eqb level 13) (fourteenEscapes p) (lowBits lsb p level) (and-second-fails standard (ne-eqb level 13 (omega arith))) (low-back lsb p k a b level asked)
+
+  module _ (lookup frequencies : List ℕ) (standard lsb : Bool) (p t : ℕ) where
     abbrev lastAt : ℕ → ℕ → Sent
     lastAt level last = sent (rowAt 17 (rowOf lookup t level) frequencies) last
 
     -- n escapes from a level on, and the last symbol
-    levels-back : (k a b last : ℕ) → last < escapeSymbol → (n left level : ℕ) → n < left → ((l : ℕ) → l ≤ level + n → At p l) →
-        Back f bytes short At (readLevels lookup frequencies lsb p t left level (cleared lsb a % 2 ^ level) (cleared lsb b % 2 ^ level))
+    levels-back : (k a b last : ℕ) → last < escapeSymbol → (n left level : ℕ) → n < left → level + left ≤ 14 → ((l : ℕ) → l ≤ level + n → At p l) →
+        Back f bytes short At (readLevels lookup frequencies standard lsb p t left level (cleared lsb a % 2 ^ level) (cleared lsb b % 2 ^ level))
         (sentEscapes lookup frequencies t level n ++ (lastAt (level + n) last ∷ [])) (lowsFrom lsb k a b level n) (levelsAt lsb (level + n) last a b)
     unfolding readLevels sentEscapes lowsFrom
-    levels-back k a b last small n zero level h asked = absurd (omega arith)
-    levels-back k a b last small zero (suc left) level h asked =
+    levels-back k a b last small n zero level h upto asked = absurd (omega arith)
+    levels-back k a b last small zero (suc left) level h upto asked =
         rw (add-zero level)
         (back-onward f bytes short At (met (symbol p level) (symbolBy (rowAt 17 (rowOf lookup t level) frequencies))) _
         (back-symbol f bytes short At (symbol p level) (lastAt level last))
         (rw (lt-ltb last escapeSymbol small) (back-done f bytes short At (levelsAt lsb level last a b))))
-    levels-back k a b last small (suc n) (suc left) level h asked =
+    levels-back k a b last small (suc n) (suc left) level h upto asked =
         let same : level + suc n ≡ level + 1 + n = omega arith in
         rw same
         (back-onward f bytes short At (met (symbol p level) (symbolBy (rowAt 17 (rowOf lookup t level) frequencies))) _
         (back-symbol f bytes short At (symbol p level) (lastAt level escapeSymbol))
-        (back-onward f bytes short At (lowBits lsb p level) _ (low-back lsb p k a b level (asked level (omega arith)))
-        (rw (low-next (cleared lsb a) level, low-next (cleared lsb b) level) (levels-back k a b last small n left (level + 1) (omega arith) (λ l m. asked l (omega arith))))))
+        (back-onward f bytes short At (behindEscape standard lsb p level) _ (behind-back standard lsb p k a b level (omega arith) (asked level (omega arith)))
+        (rw (low-next (cleared lsb a) level, low-next (cleared lsb b) level) (levels-back k a b last small n left (level + 1) (omega arith) (omega arith) (λ l m. asked l (omega arith))))))
 
   -- a line by the magnitude that is read
   line-read : (lsb : Bool) (p level : ℕ) → At p level → (k m n : ℕ) (z : ℤ) → m ≡ earlyMagnitude lsb n (natAbs z) →
@@ -199,38 +209,38 @@ module _ (f : List ℕ) (bytes : Bytes f) (short : length f ≤ 65535) (At : ℕ
         (back-last f bytes short At (readSign p n (levelsRead lsb lines p .lowSecond + secondPart (levelsRead lsb lines p .last) * 2 ^ n)) _
         (line-read lsb p n (asked n (omega arith)) (2 * p + 1) _ n (lineAt lines (2 * p + 1)) (ap (λ (q : ℕ). cleared lsb (secondOf lines p) % 2 ^ n + q * 2 ^ n) (second-part lines modest p) ∙ magnitude-back lsb n (secondOf lines p))))
 
-    module _ (lookup frequencies : List ℕ) (t : ℕ) where
-      whole-levels : Back f bytes short At (readLevels lookup frequencies lsb p t 14 0 0 0) (sentPair lookup frequencies t (firstOf lines p) (secondOf lines p)) (lowsFrom lsb (2 * p) (firstOf lines p) (secondOf lines p) 0 (escapesAt lines p)) (levelsRead lsb lines p)
+    module _ (lookup frequencies : List ℕ) (standard : Bool) (t : ℕ) where
+      whole-levels : Back f bytes short At (readLevels lookup frequencies standard lsb p t 14 0 0 0) (sentPair lookup frequencies t (firstOf lines p) (secondOf lines p)) (lowsFrom lsb (2 * p) (firstOf lines p) (secondOf lines p) 0 (escapesAt lines p)) (levelsRead lsb lines p)
       whole-levels =
           let n = escapesAt lines p in
           let first : cleared lsb (firstOf lines p) % 2 ^ 0 ≡ 0 = omega arith in
           let second : cleared lsb (secondOf lines p) % 2 ^ 0 ≡ 0 = omega arith in
           rw (first, second, zero-add n) at
-          (levels-back lookup frequencies lsb p t (2 * p) (firstOf lines p) (secondOf lines p) (pairSymbol (firstOf lines p) (secondOf lines p))
+          (levels-back lookup frequencies standard lsb p t (2 * p) (firstOf lines p) (secondOf lines p) (pairSymbol (firstOf lines p) (secondOf lines p))
           (pair-symbol-low (firstOf lines p) (secondOf lines p) (omega (arith, modest (2 * p))) (omega (arith, modest (2 * p + 1)))) n 14 0
-          (omega (arith, pair-escapes lines modest p)) (λ l m. asked l (omega arith)))
+          (omega (arith, pair-escapes lines modest p)) (omega arith) (λ l m. asked l (omega arith)))
 
-      pub pair-back : Back f bytes short At (readPair lookup frequencies lsb p t) (sentPair lookup frequencies t (firstOf lines p) (secondOf lines p)) (pairBits lsb lines p) (pairAt lsb lines p)
+      pub pair-back : Back f bytes short At (readPair lookup frequencies standard lsb p t) (sentPair lookup frequencies t (firstOf lines p) (secondOf lines p)) (pairBits lsb lines p) (pairAt lsb lines p)
       pair-back =
           let n = escapesAt lines p in
           let symbols = sentPair lookup frequencies t (firstOf lines p) (secondOf lines p) in
           let lows = lowsFrom lsb (2 * p) (firstOf lines p) (secondOf lines p) 0 n in
-          subst (λ (bits : List Bit). Back f bytes short At (readPair lookup frequencies lsb p t) symbols bits (pairAt lsb lines p)) (sym (append-assoc lows (signAt lsb n lines (2 * p)) (signAt lsb n lines (2 * p + 1))))
-          (subst (λ (xs : List Sent). Back f bytes short At (readPair lookup frequencies lsb p t) xs (lows ++ (signAt lsb n lines (2 * p) ++ signAt lsb n lines (2 * p + 1))) (pairAt lsb lines p)) (append-nil symbols)
-          (back-onward f bytes short At (readLevels lookup frequencies lsb p t 14 0 0 0) (signsBy p) whole-levels signs-back))
+          subst (λ (bits : List Bit). Back f bytes short At (readPair lookup frequencies standard lsb p t) symbols bits (pairAt lsb lines p)) (sym (append-assoc lows (signAt lsb n lines (2 * p)) (signAt lsb n lines (2 * p + 1))))
+          (subst (λ (xs : List Sent). Back f bytes short At (readPair lookup frequencies standard lsb p t) xs (lows ++ (signAt lsb n lines (2 * p) ++ signAt lsb n lines (2 * p + 1))) (pairAt lsb lines p)) (append-nil symbols)
+          (back-onward f bytes short At (readLevels lookup frequencies standard lsb p t 14 0 0 0) (signsBy p) whole-levels signs-back))
 
-module _ (f : List ℕ) (bytes : Bytes f) (short : length f ≤ 65535) (lookup frequencies : List ℕ) (lsb : Bool) (rate ne : ℕ) (lines : List ℤ) (modest : Modest lines) where
+module _ (f : List ℕ) (bytes : Bytes f) (short : length f ≤ 65535) (lookup frequencies : List ℕ) (standard lsb : Bool) (rate ne : ℕ) (lines : List ℤ) (modest : Modest lines) where
   pub pairs-given : (end p n context : ℕ) → p + n ≤ end →
-      Back f bytes short (asked lines end) (readPairs lookup frequencies lsb rate ne p n context) (sentPairs lookup frequencies rate ne lines p n context) (pairsBits lsb lines p n) (pairsOf lsb lines p n)
+      Back f bytes short (asked lines end) (readPairs lookup frequencies standard lsb rate ne p n context) (sentPairs lookup frequencies rate ne lines p n context) (pairsBits lsb lines p n) (pairsOf lsb lines p n)
   unfolding readPairs sentPairs pairsBits pairsOf
   pairs-given end p zero context h = back-done f bytes short (asked lines end) []
   pairs-given end p (suc n) context h =
       let a = magnitudeAt lines (2 * p) in
       let b = magnitudeAt lines (2 * p + 1) in
-      back-onward f bytes short (asked lines end) (readPair lookup frequencies lsb p (lookupStart context rate ne (2 * p))) _
-      (pair-back f bytes short (asked lines end) lsb lines modest p (λ level l. (omega arith, l)) lookup frequencies (lookupStart context rate ne (2 * p)))
-      (back-last f bytes short (asked lines end) (readPairs lookup frequencies lsb rate ne (p + 1) n _) (λ rest. pairAt lsb lines p ∷ rest)
-      (subst (λ (q : ℕ). Back f bytes short (asked lines end) (readPairs lookup frequencies lsb rate ne (p + 1) n q) (sentPairs lookup frequencies rate ne lines (p + 1) n (contextBehind context a b)) (pairsBits lsb lines (p + 1) n) (pairsOf lsb lines (p + 1) n))
+      back-onward f bytes short (asked lines end) (readPair lookup frequencies standard lsb p (lookupStart context rate ne (2 * p))) _
+      (pair-back f bytes short (asked lines end) lsb lines modest p (λ level l. (omega arith, l)) lookup frequencies standard (lookupStart context rate ne (2 * p)))
+      (back-last f bytes short (asked lines end) (readPairs lookup frequencies standard lsb rate ne (p + 1) n _) (λ rest. pairAt lsb lines p ∷ rest)
+      (subst (λ (q : ℕ). Back f bytes short (asked lines end) (readPairs lookup frequencies standard lsb rate ne (p + 1) n q) (sentPairs lookup frequencies rate ne lines (p + 1) n (contextBehind context a b)) (pairsBits lsb lines (p + 1) n) (pairsOf lsb lines (p + 1) n))
       (sym (context-back lines modest p context)) (pairs-given end (p + 1) n (contextBehind context a b) (omega arith))))
 
   -- the stage on a frame that holds its symbols, whatever symbols follow, and its bits, as far as these have room
@@ -239,18 +249,18 @@ module _ (f : List ℕ) (bytes : Bytes f) (short : length f ≤ 65535) (lookup f
       let bits = pairsBits lsb lines p n in
       Holding f i tail (xs ++ rest) bits →
       Came (asked lines (p + n)) (Room f i tail (xs ++ rest) bits)
-      (readPairs lookup frequencies lsb rate ne p n context (stateAt f 0 i) f (placeAt i tail))
+      (readPairs lookup frequencies standard lsb rate ne p n context (stateAt f 0 i) f (placeAt i tail))
       (accepted (record { value = pairsOf lsb lines p n; state = stateAt f 0 (behind i xs) }, placeAt (behind i xs) (tail + length bits)))
   pairs-came i tail rest p n context h =
       let xs = sentPairs lookup frequencies rate ne lines p n context in
       let bits = pairsBits lsb lines p n in
-      subst (λ (bs : List Bit). Came (asked lines (p + n)) (Room f i tail (xs ++ rest) bs) (readPairs lookup frequencies lsb rate ne p n context (stateAt f 0 i) f (placeAt i tail)) (accepted (record { value = pairsOf lsb lines p n; state = stateAt f 0 (behind i xs) }, placeAt (behind i xs) (tail + length bits)))) (append-nil bits)
+      subst (λ (bs : List Bit). Came (asked lines (p + n)) (Room f i tail (xs ++ rest) bs) (readPairs lookup frequencies standard lsb rate ne p n context (stateAt f 0 i) f (placeAt i tail)) (accepted (record { value = pairsOf lsb lines p n; state = stateAt f 0 (behind i xs) }, placeAt (behind i xs) (tail + length bits)))) (append-nil bits)
       (pairs-given (p + n) p n context (omega arith) .at i tail rest [] (subst (Holding f i tail (xs ++ rest)) (sym (append-nil bits)) h))
 
   pub pairs-back : (i : Interval) (tail : ℕ) (rest : List Sent) (p n context : ℕ) →
       let xs = sentPairs lookup frequencies rate ne lines p n context in
       let bits = pairsBits lsb lines p n in
       Holding f i tail (xs ++ rest) bits → 8 * behind i (xs ++ rest) .shifts + tail + length bits + 2 ≤ 8 * length f →
-      readPairs lookup frequencies lsb rate ne p n context (stateAt f 0 i) f (placeAt i tail)
+      readPairs lookup frequencies standard lsb rate ne p n context (stateAt f 0 i) f (placeAt i tail)
       ≡ accepted (record { value = pairsOf lsb lines p n; state = stateAt f 0 (behind i xs) }, placeAt (behind i xs) (tail + length bits))
   pairs-back i tail rest p n context h room = came-whole (pairs-came i tail rest p n context h) (λ some. room)

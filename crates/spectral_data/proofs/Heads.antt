@@ -8,10 +8,10 @@ use native.Mathlib.Omega.{arith}
 use native.Mathlib.Nat.{add-zero}
 use lib.Dec.{ltb}
 use lib.ListN.{length, getD}
-use Rattle.common.specs.Reply.{Step, accepted, wrongLength, noTailRoom}
+use Rattle.common.specs.Reply.{Step, Reply, accepted, wrongLength, noTailRoom}
 use Rattle.common.proofs.Replies.{accepted-same, then-split, given-split, within-split}
 use Rattle.buffer_reader.specs.Reads.{takeBit, bitBeyond}
-use Rattle.buffer_reader.specs.Steps.{asNumber, takeFlag}
+use Rattle.buffer_reader.specs.Steps.{refusing, asNumber, takeFlag}
 use Rattle.buffer_reader.specs.declared.Cursor.{Cursor}
 use Rattle.range_decoder.specs.declared.DecoderState.{DecoderState}
 use Rattle.sending.proofs.Tracing.{traced-symbol}
@@ -61,6 +61,13 @@ still-onward k l first rest =
 pub still-if : {A : Type 0} (t : Bool) (k l : Coding A) → Still k → Still l → Still (cond t k l)
 still-if true k l p q = p
 still-if false k l p q = q
+
+pub still-refusing : {A : Type 0} (t : Bool) (r : Reply) (k : Coding A) → Still k → Still (λ s. refusing t r (k s))
+still-refusing t r k h =
+    record {
+      state = λ s f c x e. h .state s f c x (given-split t r (k s f c) e .1);
+      head = λ s f c x e. h .head s f c x (given-split t r (k s f c) e .1);
+    }
 
 -- what a bit leaves
 bit-split : (f : List ℕ) (c : Cursor) (r : ℕ × Cursor) → takeFlag f c ≡ accepted r → r .1 .head ≡ c .head

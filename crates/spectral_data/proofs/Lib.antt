@@ -10,3 +10,5 @@ pub mod Back
 pub mod Retrace
 pub mod Puts
 pub mod Otherwise
+pub mod Readings
+pub mod InCrate

@@ -30,15 +30,15 @@ both-same : {a b : List ℤ} {d e : List ℕ} {s : DecoderState} {c : Cursor} �
     _≡_ {A = Answer (Coded (List ℤ × List ℕ) × Cursor)} (accepted (record { value = (a, d); state = s }, c)) (accepted (record { value = (b, e); state = s }, c))
 both-same p q = rw (p, q) refl
 
-module _ (lookup frequencies : List ℕ) (lsb : Bool) (rate ne : ℕ) where
+module _ (lookup frequencies : List ℕ) (standard lsb : Bool) (rate ne : ℕ) where
   -- the pairs from p on, behind what the arrays hold before them
   unfoldable pub fillFrom : ℕ → ℕ → ℕ → List ℤ → List ℕ → Coding (List ℤ × List ℕ)
   fillFrom p n context lines levels =
-      onward (readPairs lookup frequencies lsb rate ne p (n - p) context)
+      onward (readPairs lookup frequencies standard lsb rate ne p (n - p) context)
       (λ read. done (take (2 * p) lines ++ (linesOf read ++ drop (2 * n) lines), take p levels ++ (levelsOf read ++ drop n levels)))
 
   pub fill-start : (n : ℕ) (lines : List ℤ) (levels : List ℕ) (s : DecoderState) (f : List ℕ) (c : Cursor) →
-      fillFrom 0 n 0 lines levels s f c ≡ filling n lines levels (readPairs lookup frequencies lsb rate ne 0 n 0) s f c
+      fillFrom 0 n 0 lines levels s f c ≡ filling n lines levels (readPairs lookup frequencies standard lsb rate ne 0 n 0) s f c
   unfolding fillFrom
   fill-start n lines levels s f c = rw sub-zero refl
 
@@ -53,7 +53,7 @@ module _ (lookup frequencies : List ℕ) (lsb : Bool) (rate ne : ℕ) where
     one : n - p ≡ suc (n - (p + 1))
     one = omega arith
 
-    pub fill-refused : (r : Reply) → readPair lookup frequencies lsb p (lookupStart context rate ne (2 * p)) s f c ≡ refused r → fillFrom p n context lines levels s f c ≡ refused r
+    pub fill-refused : (r : Reply) → readPair lookup frequencies standard lsb p (lookupStart context rate ne (2 * p)) s f c ≡ refused r → fillFrom p n context lines levels s f c ≡ refused r
     unfolding fillFrom readPairs
     fill-refused r e = rw (one, e) refl
 
@@ -69,13 +69,13 @@ module _ (lookup frequencies : List ℕ) (lsb : Bool) (rate ne : ℕ) where
 
     -- a pair that was read, and stored at its places
     pub fill-turn : 2 * n ≤ length lines → n ≤ length levels → (x : Pair) (s′ : DecoderState) (c′ : Cursor) →
-        readPair lookup frequencies lsb p (lookupStart context rate ne (2 * p)) s f c ≡ accepted (record { value = x; state = s′ }, c′) →
+        readPair lookup frequencies standard lsb p (lookupStart context rate ne (2 * p)) s f c ≡ accepted (record { value = x; state = s′ }, c′) →
         fillFrom (p + 1) n (nextContext context (firstPart (x .last)) (secondPart (x .last)) (x .escapes)) (set (set lines (2 * p) (x .first)) (2 * p + 1) (x .second)) (set levels p (x .escapes)) s′ f c′
         ≡ fillFrom p n context lines levels s f c
     unfolding fillFrom readPairs linesOf levelsOf
     fill-turn room levelRoom x s′ c′ e =
         let rest : Answer (Coded (List Pair) × Cursor) =
-        readPairs lookup frequencies lsb rate ne (p + 1) (n - (p + 1)) (nextContext context (firstPart (x .last)) (secondPart (x .last)) (x .escapes)) s′ f c′ in
+        readPairs lookup frequencies standard lsb rate ne (p + 1) (n - (p + 1)) (nextContext context (firstPart (x .last)) (secondPart (x .last)) (x .escapes)) s′ f c′ in
         rw (one, e)
         (then-same rest _ _ (λ (r : Coded (List Pair) × Cursor). both-same (lines-laid (linesOf (r .0 .value)) room x) (laid levels p n (x .escapes) (levelsOf (r .0 .value)) (omega arith) more))
         ∙ sym (then-assoc rest (λ r. accepted (record { value = x ∷ r .0 .value; state = r .0 .state }, r .1)) _))

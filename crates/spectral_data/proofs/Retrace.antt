@@ -10,9 +10,9 @@ use borrow.Author.Tests.{ltb-false}
 use lib.Dec.{ltb, eqb}
 use lib.IntN.{ℤ, pos, negℤ, natAbs}
 use lib.ListN.{length, length-append}
-use Rattle.common.specs.Reply.{accepted, symbol, bit}
+use Rattle.common.specs.Reply.{accepted, symbol, bit, fourteenEscapes}
 use Rattle.common.specs.Tables.{rowAt, lookupPasses, partPasses}
-use Rattle.common.proofs.Replies.{accepted-same, then-split}
+use Rattle.common.proofs.Replies.{accepted-same, then-split, given-split}
 use Rattle.contexts.specs.Contexts.{lookupStart, rowOf, escapeSymbol, firstPart, secondPart, pairSymbol, nextContext, contextBehind}
 use Rattle.contexts.specs.Lines.{lineAt, magnitudeAt, minus, escapesAt, earlyLine}
 use Rattle.buffer_reader.specs.declared.Cursor.{Cursor}
@@ -21,7 +21,7 @@ use Rattle.range_encoder.specs.Interval.{Sent}
 use Rattle.sending.specs.Sending.{Bit, sent, owned, sign}
 use Rattle.sending.proofs.Tracing.{Traced, traced-done, traced-on, traced-as, traced-bit, traced-symbol, found-low}
 use Rattle.coding.specs.Coding.{Coded, Coding, done, onward, met, tailBitBy}
-use Rattle.spectral_data.specs.Spectral.{Pair, Levels, lowBits, readLevels, readSign, readPair, readPairs}
+use Rattle.spectral_data.specs.Spectral.{Pair, Levels, behindEscape, readLevels, readSign, readPair, readPairs}
 use Rattle.spectral_data.specs.Sent.{sentEscapes, sentPair, sentPairs, lowAt, lowsFrom, early, signAt, pairBits, pairsBits, pairAt, pairsOf}
 use Rattle.spectral_data.specs.Private.{signsBy, Modest}
 use Rattle.spectral_data.proofs.Sizes.{signed-size}
@@ -72,7 +72,7 @@ module _ (p level : ℕ) (s : DecoderState) (f : List ℕ) (c : Cursor) where
 
 -- ---- the levels
 
-module _ (lookup frequencies : List ℕ) (looked : lookupPasses lookup ≡ true) (rows : partPasses 64 17 frequencies ≡ true) (lsb : Bool) (p t k a b : ℕ) where
+module _ (lookup frequencies : List ℕ) (looked : lookupPasses lookup ≡ true) (rows : partPasses 64 17 frequencies ≡ true) (standard lsb : Bool) (p t k a b : ℕ) where
   abbrev symbolSent : ℕ → ℕ → Sent
   symbolSent level n = sent (rowAt 17 (rowOf lookup t level) frequencies) n
 
@@ -106,29 +106,29 @@ module _ (lookup frequencies : List ℕ) (looked : lookupPasses lookup ≡ true)
       }
 
   levels-traced : (left level x y : ℕ) (s : DecoderState) (f : List ℕ) (c : Cursor) (r : Coded Levels × Cursor) → level + left ≡ 14 → r .0 .value .escapes < 14 →
-      readLevels lookup frequencies lsb p t left level x y s f c ≡ accepted r → LevelsTraced level s c r
+      readLevels lookup frequencies standard lsb p t left level x y s f c ≡ accepted r → LevelsTraced level s c r
   unfolding readLevels
   levels-traced zero level x y s f c r all few e =
       let full : level ≡ r .0 .value .escapes = ap (λ (q : Coded Levels × Cursor). q .0 .value .escapes) (accepted-same e) in
       absurd (omega arith)
   levels-traced (suc left) level x y s f c r all few e =
-      let u = then-split (symbolAt lookup frequencies lsb p t level s f c) (λ q. levelsOn lookup frequencies lsb p t left level x y (q .0 .value) (q .0 .state) f (q .1)) e in
+      let u = then-split (symbolAt lookup frequencies standard lsb p t level s f c) (λ q. levelsOn lookup frequencies standard lsb p t left level x y (q .0 .value) (q .0 .state) f (q .1)) e in
       let row = rowAt 17 (rowOf lookup t level) frequencies in
       let one = traced-symbol (symbol p level) row s f c (u .0) (u .1) in
       let there = found-low (symbol p level) row s f c (u .0) (row-ok lookup frequencies looked rows t level) (u .1) in
       go (λ x y s c e. levels-traced left (level + 1) x y s f c r (omega arith) few e) (u .0) one there (ltb (u .0 .0 .value) escapeSymbol) refl (u .2)
     where
-      go : ((x y : ℕ) (s : DecoderState) (c : Cursor) → readLevels lookup frequencies lsb p t left (level + 1) x y s f c ≡ accepted r → LevelsTraced (level + 1) s c r) →
+      go : ((x y : ℕ) (s : DecoderState) (c : Cursor) → readLevels lookup frequencies standard lsb p t left (level + 1) x y s f c ≡ accepted r → LevelsTraced (level + 1) s c r) →
           (q : Coded ℕ × Cursor) → Traced s c (symbolSent level (q .0 .value) ∷ []) 0 q → q .0 .value < length (rowAt 17 (rowOf lookup t level) frequencies) → (small : Bool) → ltb (q .0 .value) escapeSymbol ≡ small →
           cond small (done (record { escapes = level; last = q .0 .value; lowFirst = x; lowSecond = y }))
-          (onward (lowBits lsb p level) (λ low. readLevels lookup frequencies lsb p t left (level + 1) (x + low .0 * 2 ^ level) (y + low .1 * 2 ^ level))) (q .0 .state) f (q .1) ≡ accepted r →
+          (onward (behindEscape standard lsb p level) (λ low. readLevels lookup frequencies standard lsb p t left (level + 1) (x + low .0 * 2 ^ level) (y + low .1 * 2 ^ level))) (q .0 .state) f (q .1) ≡ accepted r →
           LevelsTraced level s c r
       go rest q one there true test e = levels-last left level x y (q .0 .value) s f c q r refl one e
       go rest q one there false test e =
           let is : q .0 .value ≡ escapeSymbol = omega (arith, ltb-false (q .0 .value) escapeSymbol test, there, row-long lookup frequencies looked rows t level) in
-          let v = then-split (lowBits lsb p level (q .0 .state) f (q .1)) (λ w. readLevels lookup frequencies lsb p t left (level + 1) (x + w .0 .value .0 * 2 ^ level) (y + w .0 .value .1 * 2 ^ level) (w .0 .state) f (w .1)) e in
+          let v = then-split (behindEscape standard lsb p level (q .0 .state) f (q .1)) (λ w. readLevels lookup frequencies standard lsb p t left (level + 1) (x + w .0 .value .0 * 2 ^ level) (y + w .0 .value .1 * 2 ^ level) (w .0 .state) f (w .1)) e in
           levels-more level s c q (v .0) r (subst (λ (n : ℕ). Traced s c (symbolSent level n ∷ []) 0 q) is one)
-          (bits-traced p level (q .0 .state) f (q .1) (lsb && eqb level 0) _ _ (v .0) (v .1))
+          (bits-traced p level (q .0 .state) f (q .1) (lsb && eqb level 0) _ _ (v .0) (given-split (standard && eqb level 13) (fourteenEscapes p) _ (v .1) .1))
           (rest _ _ (v .0 .0 .state) (v .0 .1) (v .2))
 
 -- ---- a pair
@@ -139,7 +139,7 @@ sign-length true x = refl
 sign-length false x = refl
 
 -- the signs leave the escapes and the last symbol
-signs-keep : (p : ℕ) (l : Levels) (s : DecoderState) (f : List ℕ) (c : Cursor) (r : Coded Pair × Cursor) → signsBy p l s f c ≡ accepted r → (r .0 .value .escapes ≡ l .escapes) × (r .0 .value .last ≡ l .last)
+pub signs-keep : (p : ℕ) (l : Levels) (s : DecoderState) (f : List ℕ) (c : Cursor) (r : Coded Pair × Cursor) → signsBy p l s f c ≡ accepted r → (r .0 .value .escapes ≡ l .escapes) × (r .0 .value .last ≡ l .last)
 signs-keep p l s f c r e =
     let m1 = l .lowFirst + firstPart (l .last) * 2 ^ l .escapes in
     let m2 = l .lowSecond + secondPart (l .last) * 2 ^ l .escapes in
@@ -148,7 +148,7 @@ signs-keep p l s f c r e =
     let is = accepted-same (v .2) in
     (ap (λ (q : Coded Pair × Cursor). q .0 .value .escapes) (sym is), ap (λ (q : Coded Pair × Cursor). q .0 .value .last) (sym is))
 
-module _ (lookup frequencies : List ℕ) (looked : lookupPasses lookup ≡ true) (rows : partPasses 64 17 frequencies ≡ true) (lsb : Bool) (lines : List ℤ) (modest : Modest lines) where
+module _ (lookup frequencies : List ℕ) (looked : lookupPasses lookup ≡ true) (rows : partPasses 64 17 frequencies ≡ true) (standard lsb : Bool) (lines : List ℤ) (modest : Modest lines) where
   module _ (p : ℕ) where
     -- a line's sign stands where its magnitude, as it was read, is above 0
     sign-bits : (k m : ℕ) (z : ℤ) → natAbs z ≡ m → z ≡ earlyLine lsb (escapesAt lines p) (lineAt lines k) → cond (ltb 0 m) 1 0 ≡ length (signAt lsb (escapesAt lines p) lines k)
@@ -161,7 +161,7 @@ module _ (lookup frequencies : List ℕ) (looked : lookupPasses lookup ≡ true)
 
     -- the symbols of the levels are the pair's
     levels-as : (t : ℕ) (s : DecoderState) (c : Cursor) (q : Coded Levels × Cursor) → q .0 .value .escapes ≡ escapesAt lines p → q .0 .value .last ≡ pairSymbol (firstOf lines p) (secondOf lines p) →
-        LevelsTraced lookup frequencies looked rows lsb p t (2 * p) (firstOf lines p) (secondOf lines p) 0 s c q →
+        LevelsTraced lookup frequencies looked rows standard lsb p t (2 * p) (firstOf lines p) (secondOf lines p) 0 s c q →
         Traced s c (sentPair lookup frequencies t (firstOf lines p) (secondOf lines p)) (length (lowsFrom lsb (2 * p) (firstOf lines p) (secondOf lines p) 0 (escapesAt lines p))) q
     levels-as t s c q escaped ended l =
         let count : l .more ≡ escapesAt lines p = omega (arith, l .count, escaped) in
@@ -190,18 +190,18 @@ module _ (lookup frequencies : List ℕ) (looked : lookupPasses lookup ≡ true)
         (traced-on (u .0 .0 .state) (u .0 .1) [] [] (cond (ltb 0 m2) 1 0) 0 (v .0) r (two .traced)
         (traced-done (record { escapes = l .escapes; last = l .last; first = u .0 .0 .value; second = v .0 .0 .value }) (v .0 .0 .state) f (v .0 .1) r (v .2)))))
 
-    pub pair-traced : (t : ℕ) (s : DecoderState) (f : List ℕ) (c : Cursor) (r : Coded Pair × Cursor) → r .0 .value ≡ pairAt lsb lines p → readPair lookup frequencies lsb p t s f c ≡ accepted r →
+    pub pair-traced : (t : ℕ) (s : DecoderState) (f : List ℕ) (c : Cursor) (r : Coded Pair × Cursor) → r .0 .value ≡ pairAt lsb lines p → readPair lookup frequencies standard lsb p t s f c ≡ accepted r →
         Traced s c (sentPair lookup frequencies t (firstOf lines p) (secondOf lines p)) (length (pairBits lsb lines p)) r
     pair-traced t s f c r same e =
         let n = escapesAt lines p in
         let symbols = sentPair lookup frequencies t (firstOf lines p) (secondOf lines p) in
         let lows = lowsFrom lsb (2 * p) (firstOf lines p) (secondOf lines p) 0 n in
-        let u = then-split (readLevels lookup frequencies lsb p t 14 0 0 0 s f c) (λ q. signsBy p (q .0 .value) (q .0 .state) f (q .1)) e in
+        let u = then-split (readLevels lookup frequencies standard lsb p t 14 0 0 0 s f c) (λ q. signsBy p (q .0 .value) (q .0 .state) f (q .1)) e in
         let kept = signs-keep p (u .0 .0 .value) (u .0 .0 .state) f (u .0 .1) r (u .2) in
         let escaped : u .0 .0 .value .escapes ≡ n = sym (kept .0) ∙ ap (λ (x : Pair). x .escapes) same in
         let ended : u .0 .0 .value .last ≡ pairSymbol (firstOf lines p) (secondOf lines p) = sym (kept .1) ∙ ap (λ (x : Pair). x .last) same in
         let one = levels-as t s c (u .0) escaped ended
-        (levels-traced lookup frequencies looked rows lsb p t (2 * p) (firstOf lines p) (secondOf lines p) 14 0 0 0 s f c (u .0) refl (omega (arith, escaped, pair-escapes lines modest p)) (u .1)) in
+        (levels-traced lookup frequencies looked rows standard lsb p t (2 * p) (firstOf lines p) (secondOf lines p) 14 0 0 0 s f c (u .0) refl (omega (arith, escaped, pair-escapes lines modest p)) (u .1)) in
         let two = signs-traced (u .0 .0 .value) (u .0 .0 .state) f (u .0 .1) r escaped same (u .2) in
         let first = signAt lsb n lines (2 * p) in
         let second = signAt lsb n lines (2 * p + 1) in
@@ -213,16 +213,16 @@ module _ (lookup frequencies : List ℕ) (looked : lookupPasses lookup ≡ true)
 
   -- all pairs: n of them from pair p on
   pub pairs-retrace : (rate ne p n context : ℕ) (s : DecoderState) (f : List ℕ) (c : Cursor) (r : Coded (List Pair) × Cursor) → r .0 .value ≡ pairsOf lsb lines p n →
-      readPairs lookup frequencies lsb rate ne p n context s f c ≡ accepted r →
+      readPairs lookup frequencies standard lsb rate ne p n context s f c ≡ accepted r →
       Traced s c (sentPairs lookup frequencies rate ne lines p n context) (length (pairsBits lsb lines p n)) r
   unfolding readPairs sentPairs pairsBits pairsOf
   pairs-retrace rate ne p zero context s f c r same e = traced-done [] s f c r e
   pairs-retrace rate ne p (suc n) context s f c r same e =
       let t = lookupStart context rate ne (2 * p) in
       let behind = contextBehind context (firstOf lines p) (secondOf lines p) in
-      let u = then-split (readPair lookup frequencies lsb p t s f c) (λ q. onward (readPairs lookup frequencies lsb rate ne (p + 1) n (nextContext context (firstPart (q .0 .value .last)) (secondPart (q .0 .value .last)) (q .0 .value .escapes))) (λ rest. done (q .0 .value ∷ rest)) (q .0 .state) f (q .1)) e in
+      let u = then-split (readPair lookup frequencies standard lsb p t s f c) (λ q. onward (readPairs lookup frequencies standard lsb rate ne (p + 1) n (nextContext context (firstPart (q .0 .value .last)) (secondPart (q .0 .value .last)) (q .0 .value .escapes))) (λ rest. done (q .0 .value ∷ rest)) (q .0 .state) f (q .1)) e in
       let x = u .0 .0 .value in
-      let v = then-split (readPairs lookup frequencies lsb rate ne (p + 1) n (nextContext context (firstPart (x .last)) (secondPart (x .last)) (x .escapes)) (u .0 .0 .state) f (u .0 .1)) (λ q. done (x ∷ q .0 .value) (q .0 .state) f (q .1)) (u .2) in
+      let v = then-split (readPairs lookup frequencies standard lsb rate ne (p + 1) n (nextContext context (firstPart (x .last)) (secondPart (x .last)) (x .escapes)) (u .0 .0 .state) f (u .0 .1)) (λ q. done (x ∷ q .0 .value) (q .0 .state) f (q .1)) (u .2) in
       let all : x ∷ v .0 .0 .value ≡ pairAt lsb lines p ∷ pairsOf lsb lines (p + 1) n = ap (λ (q : Coded (List Pair) × Cursor). q .0 .value) (accepted-same (v .2)) ∙ same in
       let here : x ≡ pairAt lsb lines p = cc all in
       let later : v .0 .0 .value ≡ pairsOf lsb lines (p + 1) n = cc all in
@@ -230,7 +230,7 @@ module _ (lookup frequencies : List ℕ) (looked : lookupPasses lookup ≡ true)
       ap (λ (y : Pair). nextContext context (firstPart (y .last)) (secondPart (y .last)) (y .escapes)) here ∙ context-back lines modest p context in
       let one = pair-traced p t s f c (u .0) here (u .1) in
       let two = pairs-retrace rate ne (p + 1) n behind (u .0 .0 .state) f (u .0 .1) (v .0) later
-      (subst (λ (k : ℕ). readPairs lookup frequencies lsb rate ne (p + 1) n k (u .0 .0 .state) f (u .0 .1) ≡ accepted (v .0)) next (v .1)) in
+      (subst (λ (k : ℕ). readPairs lookup frequencies standard lsb rate ne (p + 1) n k (u .0 .0 .state) f (u .0 .1) ≡ accepted (v .0)) next (v .1)) in
       let size : length (pairBits lsb lines p) + length (pairsBits lsb lines (p + 1) n) ≡ length (pairBits lsb lines p ++ pairsBits lsb lines (p + 1) n) =
       sym (length-append (pairBits lsb lines p) (pairsBits lsb lines (p + 1) n)) in
       subst (λ (b : ℕ). Traced s c (sentPair lookup frequencies t (firstOf lines p) (secondOf lines p) ++ sentPairs lookup frequencies rate ne lines (p + 1) n behind) b r) size

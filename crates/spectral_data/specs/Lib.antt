@@ -1,3 +1,4 @@
 pub mod Sent
 pub mod Spectral
+pub mod InCrate
 pub mod Private

@@ -7,7 +7,7 @@ use mathlib.Core.Logic.{_⊎_}
 use lib.Dec.{ltb}
 use lib.IntN.{ℤ}
 use lib.ListN.{length, drop}
-use Rattle.common.specs.Reply.{Answer, accepted, refused, symbol}
+use Rattle.common.specs.Reply.{Reply, Answer, accepted, refused, symbol, fourteenEscapes}
 use Rattle.common.specs.Tables.{rowAt, lookupPasses, partPasses}
 use Rattle.contexts.specs.Contexts.{rowOf, escapeSymbol, firstPart, secondPart}
 use Rattle.contexts.specs.Lines.{magnitudeAt}
@@ -17,8 +17,10 @@ use Rattle.range_decoder.specs.declared.DecoderState.{DecoderState}
 use Rattle.sending.specs.Sending.{Bit}
 use Rattle.sending.specs.Private.{putAll}
 use Rattle.coding.specs.Coding.{Coded, Coding, done, onward, met, symbolBy, metOf}
-use Rattle.spectral_data.specs.Spectral.{Pair, Levels, lowBits, readSign, linesOf}
+use Rattle.spectral_data.specs.Spectral.{Pair, Levels, behindEscape, readSign, linesOf}
 use Rattle.spectral_data.specs.Spectral.{levelsOf as levelsIn·pairs}
+use Rattle.spectral_data.specs.declared.inner.PairsError.{PairsError}
+use Rattle.spectral_data.specs.declared.inner.PairsError.the-variants.{Step, FourteenEscapes}
 use Rattle.spectral_data.specs.declared.inner.LowBits.{LowBits}
 use Rattle.spectral_data.specs.declared.inner.LowBits.the-variants.{Bits, Refused as LowRefused}
 use Rattle.spectral_data.specs.declared.inner.Turn.{Turn}
@@ -50,12 +52,12 @@ pub data Turned : Type 0 where
   last : ℕ → Turned
   escape : ℕ → ℕ → Turned
 
-abbrev pub turnBy : List ℕ → List ℕ → Bool → ℕ → ℕ → ℕ → Coding Turned
-turnBy lookup frequencies lsb p t level =
+abbrev pub turnBy : List ℕ → List ℕ → Bool → Bool → ℕ → ℕ → ℕ → Coding Turned
+turnBy lookup frequencies standard lsb p t level =
     onward (met (symbol p level) (symbolBy (rowAt 17 (rowOf lookup t level) frequencies)))
     (λ k. cond (ltb k escapeSymbol)
     (done (last k))
-    (onward (lowBits lsb p level) (λ low. done (escape (low .0) (low .1)))))
+    (onward (behindEscape standard lsb p level) (λ low. done (escape (low .0) (low .1)))))
 
 -- what is known of a pair's levels where all are read
 pub record Bounded (l : Levels) : Type 0 where
@@ -78,37 +80,41 @@ filling n lines levels pairs =
     onward pairs (λ read. done (linesOf read ++ drop (2 * n) lines, levelsIn·pairs read ++ drop n levels))
 
 -- what each enum and struct of the code says
+abbrev pub errorOf : PairsError → Reply
+errorOf (Step m) = metOf m
+errorOf (FourteenEscapes p) = fourteenEscapes p
+
 abbrev pub lowOf : DecoderState → LowBits → Answer (Coded (ℕ × ℕ) × Cursor)
 lowOf s (Bits a b c) = accepted (record { value = (a, b); state = s }, c)
-lowOf s (LowRefused e) = refused (metOf e)
+lowOf s (LowRefused e) = refused (errorOf e)
 
 abbrev pub turnOf : Turn → Answer (Coded Turned × Cursor)
 turnOf (Last k s c) = accepted (record { value = last k; state = s }, c)
 turnOf (Escape a b s c) = accepted (record { value = escape a b; state = s }, c)
-turnOf (TurnRefused e) = refused (metOf e)
+turnOf (TurnRefused e) = refused (errorOf e)
 
 abbrev pub levelsIn : LevelsHeld → Levels
 levelsIn l = record { escapes = l .escapes; last = l .last; lowFirst = l .«low_first»; lowSecond = l .«low_second» }
 
 abbrev pub levelsOf : LevelsRead → Answer (Coded Levels × Cursor)
 levelsOf (LevelsAt l s c) = accepted (record { value = levelsIn l; state = s }, c)
-levelsOf (LevelsRefused e) = refused (metOf e)
+levelsOf (LevelsRefused e) = refused (errorOf e)
 
 abbrev pub lineOf : DecoderState → LineRead → Answer (Coded ℤ × Cursor)
 lineOf s (Line x c) = accepted (record { value = x; state = s }, c)
-lineOf s (LineRefused e) = refused (metOf e)
+lineOf s (LineRefused e) = refused (errorOf e)
 
 abbrev pub pairIn : PairHeld → Pair
 pairIn x = record { escapes = x .escapes; last = x .last; first = x .first; second = x .second }
 
 abbrev pub pairOf : PairRead → Answer (Coded Pair × Cursor)
 pairOf (PairAt x s c) = accepted (record { value = pairIn x; state = s }, c)
-pairOf (PairRefused e) = refused (metOf e)
+pairOf (PairRefused e) = refused (errorOf e)
 
 -- the answer, with what the two arrays hold behind it where it is accepted
 abbrev pub pairsOf : PairsRead → List ℤ → List ℕ → Answer (Coded (List ℤ × List ℕ) × Cursor)
 pairsOf (At s c) lines levels = accepted (record { value = (lines, levels); state = s }, c)
-pairsOf (PairsRefused e) lines levels = refused (metOf e)
+pairsOf (PairsRefused e) lines levels = refused (errorOf e)
 
 -- bits put, or counted alone, from a place on, with the place behind them
 pub record Put (writing : Bool) (f : List ℕ) (place : ℕ) (bits : List Bit) (next : ℕ) (g : List ℕ) : Type 0 where

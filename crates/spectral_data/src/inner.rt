@@ -1,4 +1,4 @@
-// The spectral stage on what the frame's reader has judged: nothing but 9, 10 and 11 is left to refuse.
+// The spectral stage on what the frame's reader has judged: nothing but 9, 10, 11 and 19 is left to refuse.
 ghost use mathlib.Core.Path.{_≡_};
 ghost use mathlib.Core.Bool.{true, cond, _&&_};
 ghost use Prim.Native.Nat.{_+_, _*_, _^_, _≤_, _<_};
@@ -10,7 +10,7 @@ ghost use Rattle.sending.specs.Private.{Ready, sentAll, laidAll};
 ghost use Rattle.spectral_data.specs.Sent.{sentPairs};
 ghost use Rattle.range_decoder.specs.declared.DecoderState.{DecoderState as State};
 ghost use Rattle.contexts.specs.Contexts.{firstPart, secondPart, nextContext};
-ghost use Rattle.spectral_data.specs.Spectral.{lowBits, readLevels, readSign, readPair, readPairs};
+ghost use Rattle.spectral_data.specs.Spectral.{lowBits, behindEscape, readLevels, readSign, readPair, readPairs};
 ghost use Rattle.sending.specs.Private.{Puts, putAll};
 ghost use Rattle.spectral_data.specs.Sent.{pairsBits};
 ghost use Rattle.spectral_data.specs.Private.{Judged, Bounded, lowOf, turnBy, turnOf, levelsIn, levelsOf, lineOf, signsBy, pairOf, filling, pairsOf};
@@ -21,17 +21,23 @@ use coding::inner::SymbolMet;
 use range_decoder::DecoderState;
 use range_encoder::EncoderState;
 
+// What the stage refuses: 9 to 11, in the step that met them, and 19, which stands in none.
+pub enum PairsError {
+    Step(Met),
+    FourteenEscapes(usize),
+}
+
 // The two tail bits behind an escape.
 pub(crate) enum LowBits {
     Bits(u32, u32, Cursor),
-    Refused(Met),
+    Refused(PairsError),
 }
 
 // One level of a pair: its last symbol, or an escape with its tail bits.
 pub(crate) enum Turn {
     Last(usize, DecoderState, Cursor),
     Escape(u32, u32, DecoderState, Cursor),
-    Refused(Met),
+    Refused(PairsError),
 }
 
 // A pair before its signs: the low bits of both lines, one of each for a level.
@@ -44,12 +50,12 @@ pub(crate) struct Levels {
 
 pub(crate) enum LevelsRead {
     Read(Levels, DecoderState, Cursor),
-    Refused(Met),
+    Refused(PairsError),
 }
 
 pub(crate) enum LineRead {
     Line(i32, Cursor),
-    Refused(Met),
+    Refused(PairsError),
 }
 
 pub(crate) struct Pair {
@@ -61,12 +67,12 @@ pub(crate) struct Pair {
 
 pub(crate) enum PairRead {
     Read(Pair, DecoderState, Cursor),
-    Refused(Met),
+    Refused(PairsError),
 }
 
 pub enum PairsRead {
     At(DecoderState, Cursor),
-    Refused(Met),
+    Refused(PairsError),
 }
 
 // In least-bit mode an escape has no tail bits at level 0.
@@ -89,10 +95,38 @@ fn low_bits(buf: &[u8], at: Cursor, lsb: bool, p: usize, level: usize) -> LowBit
     match coding::inner::bit(buf, at) {
         BitMet::Bit(a, next) => match coding::inner::bit(buf, next) {
             BitMet::Bit(b, behind) => LowBits::Bits(a, b, behind),
-            BitMet::Refused(e) => LowBits::Refused(Met::Bit(p, level, e)),
+            BitMet::Refused(e) => LowBits::Refused(PairsError::Step(Met::Bit(p, level, e))),
         },
-        BitMet::Refused(e) => LowBits::Refused(Met::Bit(p, level, e)),
+        BitMet::Refused(e) => LowBits::Refused(PairsError::Step(Met::Bit(p, level, e))),
     }
+}
+
+// Levels go from 0: the fourteenth escape stands at 13. Only in the standard reading is it damage.
+fn is_damage(standard: bool, level: usize) -> bool
+    ensures { λ r. ⌜ r ≡ (standard && eqb level 13) ⌝ }
+{
+    if !standard {
+        return false;
+    }
+    level == 13
+}
+
+// What comes behind an escape: its tail bits, and before those of the fourteenth 19.
+fn behind_escape(
+    buf: &[u8],
+    at: Cursor,
+    standard: bool,
+    lsb: bool,
+    p: usize,
+    level: usize,
+) -> LowBits
+    requires { ⌜ length (now buf) ≤ 65535 ⌝ }
+    ensures { λ r. ⌜ ((s : State) → lowOf s r ≡ behindEscape standard lsb p level s (now (buf .entry)) at) ⌝ }
+{
+    if is_damage(standard, level) {
+        return LowBits::Refused(PairsError::FourteenEscapes(p));
+    }
+    low_bits(buf, at, lsb, p, level)
 }
 
 // One symbol of pair p, and behind an escape its tail bits.
@@ -102,13 +136,14 @@ fn read_turn(
     at: Cursor,
     lookup: &[u8],
     frequencies: &[u16],
+    standard: bool,
     lsb: bool,
     p: usize,
     start: usize,
     level: usize,
 ) -> Turn
     requires { ⌜ Judged (now buf) state (now lookup) (now frequencies) × (start < 1024) ⌝ }
-    ensures { λ r. ⌜ turnOf r ≡ turnBy (now (lookup .entry)) (now (frequencies .entry)) lsb p start level state (now (buf .entry)) at ⌝ }
+    ensures { λ r. ⌜ turnOf r ≡ turnBy (now (lookup .entry)) (now (frequencies .entry)) standard lsb p start level state (now (buf .entry)) at ⌝ }
 {
     let row = contexts::inner::row(lookup, start, level);
     match coding::inner::symbol(state, buf, at, frequencies, row * 17, 17) {
@@ -116,12 +151,12 @@ fn read_turn(
             if k < 16 {
                 return Turn::Last(k, after, next);
             }
-            match low_bits(buf, next, lsb, p, level) {
+            match behind_escape(buf, next, standard, lsb, p, level) {
                 LowBits::Bits(a, b, behind) => Turn::Escape(a, b, after, behind),
                 LowBits::Refused(e) => Turn::Refused(e),
             }
         }
-        SymbolMet::Refused(e) => Turn::Refused(Met::Symbol(p, level, e)),
+        SymbolMet::Refused(e) => Turn::Refused(PairsError::Step(Met::Symbol(p, level, e))),
     }
 }
 
@@ -141,12 +176,13 @@ fn read_levels(
     at: Cursor,
     lookup: &[u8],
     frequencies: &[u16],
+    standard: bool,
     lsb: bool,
     p: usize,
     start: usize,
 ) -> LevelsRead
     requires { ⌜ Judged (now buf) state (now lookup) (now frequencies) × (start < 1024) ⌝ }
-    ensures { λ r. ⌜ levelsOf r ≡ readLevels (now (lookup .entry)) (now (frequencies .entry)) lsb p start 14 0 0 0 state (now (buf .entry)) at ⌝ }
+    ensures { λ r. ⌜ levelsOf r ≡ readLevels (now (lookup .entry)) (now (frequencies .entry)) standard lsb p start 14 0 0 0 state (now (buf .entry)) at ⌝ }
 {
     let mut here = state;
     let mut place = at;
@@ -154,7 +190,18 @@ fn read_levels(
     let mut low_second = 0;
     let mut level = 0;
     while level < 14 {
-        match read_turn(here, buf, place, lookup, frequencies, lsb, p, start, level) {
+        match read_turn(
+            here,
+            buf,
+            place,
+            lookup,
+            frequencies,
+            standard,
+            lsb,
+            p,
+            start,
+            level,
+        ) {
             Turn::Last(k, after, next) => {
                 let read = Levels {
                     escapes: level,
@@ -204,7 +251,7 @@ fn signed_line(buf: &[u8], at: Cursor, p: usize, level: usize, magnitude: u32) -
     if 0 < magnitude {
         match coding::inner::bit(buf, at) {
             BitMet::Bit(minus, next) => LineRead::Line(signed(minus, magnitude), next),
-            BitMet::Refused(e) => LineRead::Refused(Met::Bit(p, level, e)),
+            BitMet::Refused(e) => LineRead::Refused(PairsError::Step(Met::Bit(p, level, e))),
         }
     } else {
         LineRead::Line(0, at)
@@ -244,14 +291,15 @@ fn read_pair(
     at: Cursor,
     lookup: &[u8],
     frequencies: &[u16],
+    standard: bool,
     lsb: bool,
     p: usize,
     start: usize,
 ) -> PairRead
     requires { ⌜ Judged (now buf) state (now lookup) (now frequencies) × (start < 1024) ⌝ }
-    ensures { λ r. ⌜ pairOf r ≡ readPair (now (lookup .entry)) (now (frequencies .entry)) lsb p start state (now (buf .entry)) at ⌝ }
+    ensures { λ r. ⌜ pairOf r ≡ readPair (now (lookup .entry)) (now (frequencies .entry)) standard lsb p start state (now (buf .entry)) at ⌝ }
 {
-    match read_levels(state, buf, at, lookup, frequencies, lsb, p, start) {
+    match read_levels(state, buf, at, lookup, frequencies, standard, lsb, p, start) {
         LevelsRead::Read(read, after, next) => signs(buf, next, p, read, after),
         LevelsRead::Refused(e) => PairRead::Refused(e),
     }
@@ -279,6 +327,7 @@ pub fn read_pairs(
     at: Cursor,
     lookup: &[u8],
     frequencies: &[u16],
+    standard: bool,
     lsb: bool,
     rate: usize,
     ne: usize,
@@ -287,7 +336,7 @@ pub fn read_pairs(
     levels: &mut [u8],
 ) -> PairsRead
     requires { ⌜ Judged (now buf) state (now lookup) (now frequencies) × (rate ≤ 512) × (pairs ≤ 200) × (2 * pairs ≤ length (now lines)) × (pairs ≤ length (now levels)) ⌝ }
-    ensures { λ r. ⌜ pairsOf r (now (lines .exit)) (now (levels .exit)) ≡ filling pairs (now (lines .entry)) (now (levels .entry)) (readPairs (now (lookup .entry)) (now (frequencies .entry)) lsb rate ne 0 pairs 0) state (now (buf .entry)) at ⌝ }
+    ensures { λ r. ⌜ pairsOf r (now (lines .exit)) (now (levels .exit)) ≡ filling pairs (now (lines .entry)) (now (levels .entry)) (readPairs (now (lookup .entry)) (now (frequencies .entry)) standard lsb rate ne 0 pairs 0) state (now (buf .entry)) at ⌝ }
 {
     let mut here = state;
     let mut place = at;
@@ -295,7 +344,17 @@ pub fn read_pairs(
     let mut p = 0;
     while p < pairs {
         let start = contexts::inner::lookup_start(context, rate, ne, 2 * p);
-        match read_pair(here, buf, place, lookup, frequencies, lsb, p, start) {
+        match read_pair(
+            here,
+            buf,
+            place,
+            lookup,
+            frequencies,
+            standard,
+            lsb,
+            p,
+            start,
+        ) {
             PairRead::Read(read, after, next) => {
                 store(lines, levels, p, read);
                 context = context_behind(context, read);

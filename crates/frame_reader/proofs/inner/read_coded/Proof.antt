@@ -4,7 +4,7 @@ use Prim.Native.Nat.{_*_, _≤_}
 use mathlib.Core.Path.{_≡_, refl, sym, ap, _∙_}
 use native.Mathlib.Omega.{arith}
 use lib.ListN.{length}
-use Rattle.common.specs.Reply.{accepted}
+use Rattle.common.specs.Reply.{accepted, refused}
 use Rattle.contexts.specs.Contexts.{rateFlag}
 use Rattle.tns_data.specs.Tns.{readTns}
 use Rattle.tns_data.specs.Private.{Told, told, tnsOf}
@@ -56,14 +56,17 @@ cast-pairs c = search needs
 
 read-pairs-requires : tie.Need-read-pairs-requires
 read-pairs-requires c κs =
-    let a = c .before .before .before .before .before .before .before .before .before .before .before .before .before .before .before .before .args in
-    let p = c .before .before .before .before .before .before .before .before .before .before .before .before .before .before .before .before .pre in
-    let rate = c .before .before .before .before .rate-flag in
-    let passes = tns-passes (a .configuration) (a .ne) (a .buf .now) (a .lookup .now) (a .frequencies .now) (a .orders .now) (a .coefficients .now) (a .lines .now) (a .levels .now) (a .side) (a .state) (a .at) (c .before .before .before .before .before .before .before .before .before .before .weighting-row .result) (rate .result) (c .before .before .before .before .before .before .before .before .before .before .weighting-row .ensures) (rate .ensures) (toldAt (c .before .before .before .before .before .before)) (told-at (c .before .before .before .before .before .before)) (p .0) (p .1) in
-    (record { short = omega (arith, low (c .before .before .before .before .before .before .before .before .before .before .before .before .before .before .before .before)); range = passes; looked = p .0 .looked; rows = p .0 .rows }, rate-most (rate .result) (8 * length (a .buf .now)) (a .configuration .«fs_ind») (rate .ensures), omega arith, omega arith, omega arith)
+    let a = c .before .before .before .before .before .before .before .before .before .before .before .before .before .before .before .before .before .args in
+    let p = c .before .before .before .before .before .before .before .before .before .before .before .before .before .before .before .before .before .pre in
+    let rate = c .before .before .before .before .before .rate-flag in
+    let passes = tns-passes (a .configuration) (a .ne) (a .buf .now) (a .lookup .now) (a .frequencies .now) (a .orders .now) (a .coefficients .now) (a .lines .now) (a .levels .now) (a .side) (a .state) (a .at) (c .before .before .before .before .before .before .before .before .before .before .before .weighting-row .result) (rate .result) (c .before .before .before .before .before .before .before .before .before .before .before .weighting-row .ensures) (rate .ensures) (toldAt (c .before .before .before .before .before .before .before)) (told-at (c .before .before .before .before .before .before .before)) (p .0) (p .1) in
+    (record { short = omega (arith, low (c .before .before .before .before .before .before .before .before .before .before .before .before .before .before .before .before .before)); range = passes; looked = p .0 .looked; rows = p .0 .rows }, rate-most (rate .result) (8 * length (a .buf .now)) (a .configuration .«fs_ind») (rate .ensures), omega arith, omega arith, omega arith)
 
-enum-known-m-2 : tie.Need-enum-known-m-2
-enum-known-m-2 c = search needs
+enum-known-e : tie.Need-enum-known-e
+enum-known-e c = search needs
+
+of-pairs-requires : tie.Need-of-pairs-requires
+of-pairs-requires c κs = search needs
 
 enum-known-last : tie.Need-enum-known-last
 enum-known-last c = search needs
@@ -76,19 +79,20 @@ returns c =
 
 returns-2 : tie.Need-returns-2
 returns-2 c =
-    let a = c .before .before .before .before .before .before .before .before .before .before .before .before .before .before .before .before .before .before .before .before .args in
-    let rate = c .before .before .before .before .before .before .before .before .rate-flag in
-    let pairs = c .before .before .before .read-pairs in
-    sym (coded-second (a .configuration) (a .ne) (a .buf .now) (a .lookup .now) (a .frequencies .now) (a .orders .now) (a .coefficients .now) (a .lines .now) (a .levels .now) (a .side) (a .state) (a .at) (c .before .before .before .before .before .before .before .before .before .before .before .before .before .before .weighting-row .result) (rate .result) (c .before .before .before .before .before .before .before .before .before .before .before .before .before .before .weighting-row .ensures) (rate .ensures) (toldAt (c .before .before .before .before .before .before .before .before .before .before)) (told-at (c .before .before .before .before .before .before .before .before .before .before))
-    (sym (pairs .ensures) ∙ ap (λ r. pairsOf r (pairs .last .1 .1 .1 .1 .1 .1 .1 .1 .1 .0) (pairs .last .1 .1 .1 .1 .1 .1 .1 .1 .1 .1 .0)) (c .before .m2 .given .1)))
+    let a = c .before .before .before .before .before .before .before .before .before .before .before .before .before .before .before .before .before .before .before .before .before .before .args in
+    let rate = c .before .before .before .before .before .before .before .before .before .before .rate-flag in
+    let pairs = c .before .before .before .before .read-pairs in
+    ap refused (c .of-pairs .ensures)
+    ∙ sym (coded-second (a .configuration) (a .ne) (a .buf .now) (a .lookup .now) (a .frequencies .now) (a .orders .now) (a .coefficients .now) (a .lines .now) (a .levels .now) (a .side) (a .state) (a .at) (c .before .before .before .before .before .before .before .before .before .before .before .before .before .before .before .before .weighting-row .result) (rate .result) (c .before .before .before .before .before .before .before .before .before .before .before .before .before .before .before .before .weighting-row .ensures) (rate .ensures) (toldAt (c .before .before .before .before .before .before .before .before .before .before .before .before)) (told-at (c .before .before .before .before .before .before .before .before .before .before .before .before))
+    (sym (pairs .ensures) ∙ ap (λ r. pairsOf r (pairs .last .1 .1 .1 .1 .1 .1 .1 .1 .1 .1 .0) (pairs .last .1 .1 .1 .1 .1 .1 .1 .1 .1 .1 .1 .0)) (c .before .before .e .given .1)))
 
 returns-3 : tie.Need-returns-3
 returns-3 c =
-    let a = c .before .before .before .before .before .before .before .before .before .before .before .before .before .before .before .before .before .before .before .before .args in
-    let rate = c .before .before .before .before .before .before .before .before .rate-flag in
+    let a = c .before .before .before .before .before .before .before .before .before .before .before .before .before .before .before .before .before .before .before .before .before .args in
+    let rate = c .before .before .before .before .before .before .before .before .before .rate-flag in
     let pairs = c .before .before .before .read-pairs in
-    sym (coded-both (a .configuration) (a .ne) (a .buf .now) (a .lookup .now) (a .frequencies .now) (a .orders .now) (a .coefficients .now) (a .lines .now) (a .levels .now) (a .side) (a .state) (a .at) (c .before .before .before .before .before .before .before .before .before .before .before .before .before .before .weighting-row .result) (rate .result) (c .before .before .before .before .before .before .before .before .before .before .before .before .before .before .weighting-row .ensures) (rate .ensures) (toldAt (c .before .before .before .before .before .before .before .before .before .before)) (told-at (c .before .before .before .before .before .before .before .before .before .before))
-    (sym (pairs .ensures) ∙ ap (λ r. pairsOf r (pairs .last .1 .1 .1 .1 .1 .1 .1 .1 .1 .0) (pairs .last .1 .1 .1 .1 .1 .1 .1 .1 .1 .1 .0)) (c .before .last .given .1)))
+    sym (coded-both (a .configuration) (a .ne) (a .buf .now) (a .lookup .now) (a .frequencies .now) (a .orders .now) (a .coefficients .now) (a .lines .now) (a .levels .now) (a .side) (a .state) (a .at) (c .before .before .before .before .before .before .before .before .before .before .before .before .before .before .before .weighting-row .result) (rate .result) (c .before .before .before .before .before .before .before .before .before .before .before .before .before .before .before .weighting-row .ensures) (rate .ensures) (toldAt (c .before .before .before .before .before .before .before .before .before .before .before)) (told-at (c .before .before .before .before .before .before .before .before .before .before .before))
+    (sym (pairs .ensures) ∙ ap (λ r. pairsOf r (pairs .last .1 .1 .1 .1 .1 .1 .1 .1 .1 .1 .0) (pairs .last .1 .1 .1 .1 .1 .1 .1 .1 .1 .1 .1 .0)) (c .before .last .given .1)))
 
 pub read-coded-spec : {M : Type 1} → statement M
 read-coded-spec =
@@ -102,7 +106,8 @@ read-coded-spec =
     rate-flag-requires
     cast-pairs
     read-pairs-requires
-    enum-known-m-2
+    enum-known-e
+    of-pairs-requires
     enum-known-last
     returns
     returns-2

@@ -67,6 +67,12 @@ enum-known-e-7 c = search needs
 met-requires : tie.Need-met-requires
 met-requires c κs = search needs
 
+enum-known-e-8 : tie.Need-enum-known-e-8
+enum-known-e-8 c = search needs
+
+valued-requires-3 : tie.Need-valued-requires-3
+valued-requires-3 c κs = search needs
+
 enum-told-3 : tie.Need-enum-told-3
 enum-told-3 c = search needs
 
@@ -152,6 +158,14 @@ same-length-10 c = search needs
 returns-10 : tie.Need-returns-10
 returns-10 c =
     let call = c .before .before in
+    (rw (call .before .before .before .e8 .given .1) (call .valued3 .ensures .0), omega arith)
+
+same-length-11 : tie.Need-same-length-11
+same-length-11 c = search needs
+
+returns-11 : tie.Need-returns-11
+returns-11 c =
+    let call = c .before .before in
     (rw (call .before .before .enum-told3 .given .1) (call .bare3 .ensures .0), omega arith)
 
 pub error-spec : {M : Type 1} → statement M
@@ -178,6 +192,8 @@ error-spec =
     valued-u32-requires-3
     enum-known-e-7
     met-requires
+    enum-known-e-8
+    valued-requires-3
     enum-told-3
     bare-requires-3
     same-length
@@ -199,4 +215,6 @@ error-spec =
     same-length-9
     returns-9
     same-length-10
-    returns-10)
+    returns-10
+    same-length-11
+    returns-11)

@@ -47,6 +47,9 @@ enum-known-e-7 c = search needs
 met-place-requires : tie.Need-met-place-requires
 met-place-requires c κs = search needs
 
+enum-known-e-8 : tie.Need-enum-known-e-8
+enum-known-e-8 c = search needs
+
 enum-told-3 : tie.Need-enum-told-3
 enum-told-3 c = search needs
 
@@ -78,7 +81,10 @@ returns-9 : tie.Need-returns-9
 returns-9 c = rw (c .before .before .e7 .given .1) (c .met-place .ensures)
 
 returns-10 : tie.Need-returns-10
-returns-10 c = rw (c .enum-told3 .given .1) refl
+returns-10 c = rw (c .before .e8 .given .1) refl
+
+returns-11 : tie.Need-returns-11
+returns-11 c = rw (c .enum-told3 .given .1) refl
 
 pub place-spec : {M : Type 1} → statement M
 place-spec =
@@ -98,6 +104,7 @@ place-spec =
     wide-requires-4
     enum-known-e-7
     met-place-requires
+    enum-known-e-8
     enum-told-3
     returns
     returns-2
@@ -108,4 +115,5 @@ place-spec =
     returns-7
     returns-8
     returns-9
-    returns-10)
+    returns-10
+    returns-11)

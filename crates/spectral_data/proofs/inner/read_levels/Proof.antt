@@ -19,15 +19,15 @@ use Rattle.spectral_data.proofs.inner.read_levels.Statement.{statement}
 use Rattle.spectral_data.proofs.inner.read_levels.Tie as tie
 
 abbrev Inv-loop : tie.InvT-loop
-Inv-loop buf lookup frequencies lsb p start here₀ place₀ low-first₀ low-second₀ level₀ here place low-first low-second level =
+Inv-loop buf lookup frequencies standard lsb p start here₀ place₀ low-first₀ low-second₀ level₀ here place low-first low-second level =
     (level ≤ 14) ×
     (low-first < 2 ^ level) ×
     (low-second < 2 ^ level) ×
     (rangePasses (here .range) ≡ true) ×
-    (readLevels lookup frequencies lsb p start (14 - level) level low-first low-second here buf place ≡ readLevels lookup frequencies lsb p start 14 0 0 0 here₀ buf place₀)
+    (readLevels lookup frequencies standard lsb p start (14 - level) level low-first low-second here buf place ≡ readLevels lookup frequencies standard lsb p start 14 0 0 0 here₀ buf place₀)
 
 abbrev μ-loop : tie.MeasureT-loop
-μ-loop buf lookup frequencies lsb p start here₀ place₀ low-first₀ low-second₀ level₀ here place low-first low-second level = 14 - level
+μ-loop buf lookup frequencies standard lsb p start here₀ place₀ low-first₀ low-second₀ level₀ here place low-first low-second level = 14 - level
 
 -- in the loop a symbol is left to read
 more : (c : tie.In-loop Inv-loop μ-loop) → c .before .loop .level < 14
@@ -42,7 +42,7 @@ escapeAt c =
 escaped : (c : tie.After-known-told2 Inv-loop μ-loop) →
     let a = c .before .before .before .before .before .before .before .before .before .args in
     let l = c .before .before .before .before .before .loop in
-    turnBy (a .lookup .now) (a .frequencies .now) (a .lsb) (a .p) (a .start) (l .level) (l .here) (a .buf .now) (l .place) ≡ accepted (escapeAt c)
+    turnBy (a .lookup .now) (a .frequencies .now) (a .standard) (a .lsb) (a .p) (a .start) (l .level) (l .here) (a .buf .now) (l .place) ≡ accepted (escapeAt c)
 escaped c = sym (c .before .before .before .read-turn .ensures) ∙ ap turnOf (c .before .a .given .1)
 
 -- its bits are 0 or 1, and the range behind it passes
@@ -51,7 +51,7 @@ turned c =
     let a = c .before .before .before .before .before .before .before .before .before .args in
     let j = c .before .before .before .before .before .before .before .before .before .pre .0 in
     let l = c .before .before .before .before .before .loop in
-    keeps-at (turn-going (a .lookup .now) (a .frequencies .now) (j .looked) (j .rows) (a .lsb) (a .p) (a .start) (l .level) (omega (arith, more (c .before .before .before .before)))) (l .here) (a .buf .now) (l .place) (j .short) (l .inv .3) (both-here (a .buf .now) (l .place)) (escaped c)
+    keeps-at (turn-going (a .lookup .now) (a .frequencies .now) (j .looked) (j .rows) (a .standard) (a .lsb) (a .p) (a .start) (l .level) (omega (arith, more (c .before .before .before .before)))) (l .here) (a .buf .now) (l .place) (j .short) (l .inv .3) (both-here (a .buf .now) (l .place)) (escaped c)
 
 loop-holds : tie.Need-loop-holds Inv-loop μ-loop
 loop-holds c = (omega arith, omega arith, omega arith, c .before .before .before .pre .0 .range, refl)
@@ -68,7 +68,7 @@ returns : tie.Need-returns Inv-loop μ-loop
 returns c =
     let a = c .before .before .before .before .before .before .before .before .before .args in
     let l = c .before .before .before .before .before .loop in
-    sym (levels-last (a .lookup .now) (a .frequencies .now) (a .lsb) (a .p) (a .start) (l .level) (l .low-first) (l .low-second) (l .here) (a .buf .now) (l .place) (more (c .before .before .before .before)) _ _ _ (sym (c .before .before .before .read-turn .ensures) ∙ ap turnOf (c .before .k .given .1))) ∙ l .inv .4
+    sym (levels-last (a .lookup .now) (a .frequencies .now) (a .standard) (a .lsb) (a .p) (a .start) (l .level) (l .low-first) (l .low-second) (l .here) (a .buf .now) (l .place) (more (c .before .before .before .before)) _ _ _ (sym (c .before .before .before .read-turn .ensures) ∙ ap turnOf (c .before .k .given .1))) ∙ l .inv .4
 
 enum-known-a : tie.Need-enum-known-a Inv-loop μ-loop
 enum-known-a c = search needs
@@ -104,7 +104,7 @@ loop-again c =
       rw (c .before .raised .ensures .0) (low-more (l .level) (l .low-first) _ (l .inv .1) (bits .known .0)),
       rw (c .raised2 .ensures .0) (low-more (l .level) (l .low-second) _ (l .inv .2) (bits .known .1)),
       bits .range,
-      rw (c .before .raised .ensures .0, c .raised2 .ensures .0) (sym (levels-escape (a .lookup .now) (a .frequencies .now) (a .lsb) (a .p) (a .start) (l .level) (l .low-first) (l .low-second) (l .here) (a .buf .now) (l .place) (more (c .before .before .before .before .before .before)) _ _ _ _ (escaped (c .before .before))) ∙ l .inv .4),
+      rw (c .before .raised .ensures .0, c .raised2 .ensures .0) (sym (levels-escape (a .lookup .now) (a .frequencies .now) (a .standard) (a .lsb) (a .p) (a .start) (l .level) (l .low-first) (l .low-second) (l .here) (a .buf .now) (l .place) (more (c .before .before .before .before .before .before)) _ _ _ _ (escaped (c .before .before))) ∙ l .inv .4),
     )
 
 enum-known-e : tie.Need-enum-known-e Inv-loop μ-loop
@@ -114,13 +114,13 @@ returns-2 : tie.Need-returns-2 Inv-loop μ-loop
 returns-2 c =
     let a = c .before .before .before .before .before .before .before .before .before .args in
     let l = c .before .before .before .before .before .loop in
-    sym (levels-refused (a .lookup .now) (a .frequencies .now) (a .lsb) (a .p) (a .start) (l .level) (l .low-first) (l .low-second) (l .here) (a .buf .now) (l .place) (more (c .before .before .before .before)) _ (sym (c .before .before .before .read-turn .ensures) ∙ ap turnOf (c .before .e .given .1))) ∙ l .inv .4
+    sym (levels-refused (a .lookup .now) (a .frequencies .now) (a .standard) (a .lsb) (a .p) (a .start) (l .level) (l .low-first) (l .low-second) (l .here) (a .buf .now) (l .place) (more (c .before .before .before .before)) _ (sym (c .before .before .before .read-turn .ensures) ∙ ap turnOf (c .before .e .given .1))) ∙ l .inv .4
 
 returns-3 : tie.Need-returns-3 Inv-loop μ-loop
 returns-3 c =
     let a = c .before .before .before .before .before .args in
     let l = c .before .loop in
-    sym (levels-end (a .lookup .now) (a .frequencies .now) (a .lsb) (a .p) (a .start) (l .level) (l .low-first) (l .low-second) (l .here) (a .buf .now) (l .place) (omega (arith, l .inv .0, c .loop-test .left))) ∙ l .inv .4
+    sym (levels-end (a .lookup .now) (a .frequencies .now) (a .standard) (a .lsb) (a .p) (a .start) (l .level) (l .low-first) (l .low-second) (l .here) (a .buf .now) (l .place) (omega (arith, l .inv .0, c .loop-test .left))) ∙ l .inv .4
 
 pub read-levels-spec : {M : Type 1} → statement M
 read-levels-spec =

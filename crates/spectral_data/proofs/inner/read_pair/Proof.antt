@@ -20,8 +20,8 @@ signs-requires c κs =
     let a = c .before .before .before .before .before .before .before .args in
     let j = c .before .before .before .before .before .before .before .pre .0 in (
       j .short,
-      keeps-at (levels-going (a .lookup .now) (a .frequencies .now) (j .looked) (j .rows) (a .lsb) (a .p) (a .start) 14 0 0 0 refl (omega arith) (omega arith)) (a .state) (a .buf .now) (a .at) (j .short) (j .range) (both-here (a .buf .now) (a .at))
-          (sym (c .before .before .before .read-levels .ensures) ∙ ap levelsOf (c .before .read .given .1)) .known,
+      keeps-at (levels-going (a .lookup .now) (a .frequencies .now) (j .looked) (j .rows) (a .standard) (a .lsb) (a .p) (a .start) 14 0 0 0 refl (λ is. omega arith) (omega arith) (omega arith)) (a .state) (a .buf .now) (a .at) (j .short) (j .range) (both-here (a .buf .now) (a .at))
+          (sym (c .before .before .before .read-levels .ensures) ∙ ap levelsOf (c .before .read .given .1)) .known .0,
     )
 
 enum-known-e : tie.Need-enum-known-e

@@ -22,16 +22,16 @@ use Rattle.spectral_data.proofs.inner.read_pairs.Statement.{statement}
 use Rattle.spectral_data.proofs.inner.read_pairs.Tie as tie
 
 abbrev Inv-loop : tie.InvT-loop
-Inv-loop buf lookup frequencies lsb rate ne pairs lines₀ levels₀ here₀ place₀ context₀ p₀ lines levels here place context p =
+Inv-loop buf lookup frequencies standard lsb rate ne pairs lines₀ levels₀ here₀ place₀ context₀ p₀ lines levels here place context p =
     (p ≤ pairs) ×
     (context ≤ 255) ×
     (rangePasses (here .range) ≡ true) ×
     (length lines ≡ length lines₀) ×
     (length levels ≡ length levels₀) ×
-    (fillFrom lookup frequencies lsb rate ne p pairs context lines levels here buf place ≡ filling pairs lines₀ levels₀ (readPairs lookup frequencies lsb rate ne 0 pairs 0) here₀ buf place₀)
+    (fillFrom lookup frequencies standard lsb rate ne p pairs context lines levels here buf place ≡ filling pairs lines₀ levels₀ (readPairs lookup frequencies standard lsb rate ne 0 pairs 0) here₀ buf place₀)
 
 abbrev μ-loop : tie.MeasureT-loop
-μ-loop buf lookup frequencies lsb rate ne pairs lines₀ levels₀ here₀ place₀ context₀ p₀ lines levels here place context p = pairs - p
+μ-loop buf lookup frequencies standard lsb rate ne pairs lines₀ levels₀ here₀ place₀ context₀ p₀ lines levels here place context p = pairs - p
 
 -- in the loop a pair is left to read
 more : (c : tie.In-loop Inv-loop μ-loop) → c .before .loop .p < c .before .before .before .before .before .before .args .pairs
@@ -41,12 +41,12 @@ more c = omega arith
 startsAt : (c : tie.After-lookup-start Inv-loop μ-loop) →
     let a = c .before .before .before .before .before .before .before .args in
     let l = c .before .before .loop in
-    readPair (a .lookup .now) (a .frequencies .now) (a .lsb) (l .p) (lookupStart (l .context) (a .rate) (a .ne) (2 * l .p)) (l .here) (a .buf .now) (l .place)
-    ≡ readPair (a .lookup .now) (a .frequencies .now) (a .lsb) (l .p) (c .lookup-start .result) (l .here) (a .buf .now) (l .place)
+    readPair (a .lookup .now) (a .frequencies .now) (a .standard) (a .lsb) (l .p) (lookupStart (l .context) (a .rate) (a .ne) (2 * l .p)) (l .here) (a .buf .now) (l .place)
+    ≡ readPair (a .lookup .now) (a .frequencies .now) (a .standard) (a .lsb) (l .p) (c .lookup-start .result) (l .here) (a .buf .now) (l .place)
 startsAt c =
     let a = c .before .before .before .before .before .before .before .args in
     let l = c .before .before .loop in
-    ap (λ (t : ℕ). readPair (a .lookup .now) (a .frequencies .now) (a .lsb) (l .p) t (l .here) (a .buf .now) (l .place)) (sym (c .lookup-start .ensures))
+    ap (λ (t : ℕ). readPair (a .lookup .now) (a .frequencies .now) (a .standard) (a .lsb) (l .p) t (l .here) (a .buf .now) (l .place)) (sym (c .lookup-start .ensures))
 
 -- a pair that was read
 abbrev pairAt : (c : tie.After-known-told Inv-loop μ-loop) → Coded Pair × Cursor
@@ -57,21 +57,21 @@ pairAt c =
 pairRead : (c : tie.After-known-told Inv-loop μ-loop) →
     let a = c .before .before .before .before .before .before .before .before .before .before .before .args in
     let l = c .before .before .before .before .before .before .loop in
-    readPair (a .lookup .now) (a .frequencies .now) (a .lsb) (l .p) (lookupStart (l .context) (a .rate) (a .ne) (2 * l .p)) (l .here) (a .buf .now) (l .place) ≡ accepted (pairAt c)
+    readPair (a .lookup .now) (a .frequencies .now) (a .standard) (a .lsb) (l .p) (lookupStart (l .context) (a .rate) (a .ne) (2 * l .p)) (l .here) (a .buf .now) (l .place) ≡ accepted (pairAt c)
 pairRead c = startsAt (c .before .before .before .before) ∙ sym (c .before .before .before .read-pair .ensures) ∙ ap pairOf (c .before .read .given .1)
 
 -- it keeps its bounds, and the range behind it passes
-behind : (c : tie.After-known-told Inv-loop μ-loop) → Behind BothMoved Sized (c .before .before .before .before .before .before .before .before .before .before .before .args .buf .now) (c .before .before .before .before .before .before .loop .place) (pairAt c)
+behind : (c : tie.After-known-told Inv-loop μ-loop) → Behind BothMoved (Sized (c .before .before .before .before .before .before .before .before .before .before .before .args .standard)) (c .before .before .before .before .before .before .before .before .before .before .before .args .buf .now) (c .before .before .before .before .before .before .loop .place) (pairAt c)
 behind c =
     let a = c .before .before .before .before .before .before .before .before .before .before .before .args in
     let j = c .before .before .before .before .before .before .before .before .before .before .before .pre .0 in
     let l = c .before .before .before .before .before .before .loop in
-    keeps-at (pair-going (a .lookup .now) (a .frequencies .now) (j .looked) (j .rows) (a .lsb) (l .p) (lookupStart (l .context) (a .rate) (a .ne) (2 * l .p))) (l .here) (a .buf .now) (l .place) (j .short) (l .inv .2) (both-here (a .buf .now) (l .place)) (pairRead c)
+    keeps-at (pair-going (a .lookup .now) (a .frequencies .now) (j .looked) (j .rows) (a .standard) (a .lsb) (l .p) (lookupStart (l .context) (a .rate) (a .ne) (2 * l .p))) (l .here) (a .buf .now) (l .place) (j .short) (l .inv .2) (both-here (a .buf .now) (l .place)) (pairRead c)
 
 loop-holds : tie.Need-loop-holds Inv-loop μ-loop
 loop-holds c =
     let a = c .before .before .before .before .args in
-    (omega arith, omega arith, c .before .before .before .before .pre .0 .range, refl, refl, fill-start (a .lookup .now) (a .frequencies .now) (a .lsb) (a .rate) (a .ne) (a .pairs) (a .lines .now) (a .levels .now) (a .state) (a .buf .now) (a .at))
+    (omega arith, omega arith, c .before .before .before .before .pre .0 .range, refl, refl, fill-start (a .lookup .now) (a .frequencies .now) (a .standard) (a .lsb) (a .rate) (a .ne) (a .pairs) (a .lines .now) (a .levels .now) (a .state) (a .buf .now) (a .at))
 
 mul-lookup-start : tie.Need-mul-lookup-start Inv-loop μ-loop
 mul-lookup-start c = omega (arith, more c, c .before .before .before .before .before .before .pre .2)
@@ -121,7 +121,7 @@ loop-again c =
       rw (c .before .before .before .before .store .ensures .0) (simp length-set (l .inv .3)),
       rw (c .before .before .before .before .store .ensures .1) (simp length-set (l .inv .4)),
       rw (c .before .before .before .before .store .ensures .0, c .before .before .before .before .store .ensures .1, c .context-behind .ensures)
-          (fill-turn (a .lookup .now) (a .frequencies .now) (a .lsb) (a .rate) (a .ne) (l .p) (a .pairs) (l .context) (l .lines) (l .levels) (l .here) (a .buf .now) (l .place) t (omega (arith, pre .3, l .inv .3)) (omega (arith, pre .4, l .inv .4)) (x .0 .value) (x .0 .state) (x .1) (pairRead (c .before .before .before .before .before .before .before)) ∙ l .inv .5),
+          (fill-turn (a .lookup .now) (a .frequencies .now) (a .standard) (a .lsb) (a .rate) (a .ne) (l .p) (a .pairs) (l .context) (l .lines) (l .levels) (l .here) (a .buf .now) (l .place) t (omega (arith, pre .3, l .inv .3)) (omega (arith, pre .4, l .inv .4)) (x .0 .value) (x .0 .state) (x .1) (pairRead (c .before .before .before .before .before .before .before)) ∙ l .inv .5),
     )
 
 enum-known-e : tie.Need-enum-known-e Inv-loop μ-loop
@@ -137,7 +137,7 @@ returns : tie.Need-returns Inv-loop μ-loop
 returns c =
     let a = c .before .before .before .before .before .before .before .before .before .before .before .args in
     let l = c .before .before .before .before .before .before .loop in
-    sym (fill-refused (a .lookup .now) (a .frequencies .now) (a .lsb) (a .rate) (a .ne) (l .p) (a .pairs) (l .context) (l .lines) (l .levels) (l .here) (a .buf .now) (l .place) (more (c .before .before .before .before .before)) _ (startsAt (c .before .before .before .before) ∙ sym (c .before .before .before .read-pair .ensures) ∙ ap pairOf (c .before .e .given .1))) ∙ l .inv .5
+    sym (fill-refused (a .lookup .now) (a .frequencies .now) (a .standard) (a .lsb) (a .rate) (a .ne) (l .p) (a .pairs) (l .context) (l .lines) (l .levels) (l .here) (a .buf .now) (l .place) (more (c .before .before .before .before .before)) _ (startsAt (c .before .before .before .before) ∙ sym (c .before .before .before .read-pair .ensures) ∙ ap pairOf (c .before .e .given .1))) ∙ l .inv .5
 
 same-length-3 : tie.Need-same-length-3 Inv-loop μ-loop
 same-length-3 c = c .before .loop .inv .3
@@ -149,7 +149,7 @@ returns-2 : tie.Need-returns-2 Inv-loop μ-loop
 returns-2 c =
     let a = c .before .before .before .before .before .before .args in
     let l = c .before .loop in
-    sym (fill-end (a .lookup .now) (a .frequencies .now) (a .lsb) (a .rate) (a .ne) (l .p) (a .pairs) (l .context) (l .lines) (l .levels) (l .here) (a .buf .now) (l .place) (omega (arith, l .inv .0, c .loop-test .left))) ∙ l .inv .5
+    sym (fill-end (a .lookup .now) (a .frequencies .now) (a .standard) (a .lsb) (a .rate) (a .ne) (l .p) (a .pairs) (l .context) (l .lines) (l .levels) (l .here) (a .buf .now) (l .place) (omega (arith, l .inv .0, c .loop-test .left))) ∙ l .inv .5
 
 pub read-pairs-spec : {M : Type 1} → statement M
 read-pairs-spec =

@@ -38,8 +38,8 @@ returns : tie.Need-returns
 returns c =
     rw (← (c .before .before .before .before .before .row .ensures), ← (c .before .before .before .before .symbol .ensures), c .before .before .k .given .1, lt-ltb (c .before .before .k .given .0 .0) 16 (omega (arith, c .if1 .taken))) refl
 
-low-bits-requires : tie.Need-low-bits-requires
-low-bits-requires c κs = search needs
+behind-escape-requires : tie.Need-behind-escape-requires
+behind-escape-requires c κs = search needs
 
 enum-known-a : tie.Need-enum-known-a
 enum-known-a c = search needs
@@ -52,11 +52,11 @@ enum-known-e-2 c = search needs
 
 returns-2 : tie.Need-returns-2
 returns-2 c =
-    rw (← (c .before .before .before .before .before .before .before .before .before .row .ensures), ← (c .before .before .before .before .before .before .before .before .symbol .ensures), c .before .before .before .before .before .before .k .given .1, le-ltb (c .before .before .before .before .before .before .k .given .0 .0) 16 (omega (arith, c .before .before .before .before .if1 .left)), ← (c .before .before .before .low-bits .ensures (c .before .before .before .before .before .before .k .given .0 .1 .0)), c .before .a .given .1) refl
+    rw (← (c .before .before .before .before .before .before .before .before .before .row .ensures), ← (c .before .before .before .before .before .before .before .before .symbol .ensures), c .before .before .before .before .before .before .k .given .1, le-ltb (c .before .before .before .before .before .before .k .given .0 .0) 16 (omega (arith, c .before .before .before .before .if1 .left)), ← (c .before .before .before .behind-escape .ensures (c .before .before .before .before .before .before .k .given .0 .1 .0)), c .before .a .given .1) refl
 
 returns-3 : tie.Need-returns-3
 returns-3 c =
-    rw (← (c .before .before .before .before .before .before .before .before .before .row .ensures), ← (c .before .before .before .before .before .before .before .before .symbol .ensures), c .before .before .before .before .before .before .k .given .1, le-ltb (c .before .before .before .before .before .before .k .given .0 .0) 16 (omega (arith, c .before .before .before .before .if1 .left)), ← (c .before .before .before .low-bits .ensures (c .before .before .before .before .before .before .k .given .0 .1 .0)), c .before .e .given .1) refl
+    rw (← (c .before .before .before .before .before .before .before .before .before .row .ensures), ← (c .before .before .before .before .before .before .before .before .symbol .ensures), c .before .before .before .before .before .before .k .given .1, le-ltb (c .before .before .before .before .before .before .k .given .0 .0) 16 (omega (arith, c .before .before .before .before .if1 .left)), ← (c .before .before .before .behind-escape .ensures (c .before .before .before .before .before .before .k .given .0 .1 .0)), c .before .e .given .1) refl
 
 returns-4 : tie.Need-returns-4
 returns-4 c =
@@ -71,7 +71,7 @@ read-turn-spec =
     symbol-requires
     enum-known-k
     returns
-    low-bits-requires
+    behind-escape-requires
     enum-known-a
     enum-known-e
     enum-known-e-2
