@@ -6,4 +6,3 @@ pub mod Unique
 pub mod Steps
 pub mod Roomy
 pub mod Readers
-pub mod Held

@@ -1,5 +1,7 @@
 // Reads a frame from both ends: whole bytes from its head, bits from its tail. The cursor goes in by value and comes back
 // in the answer.
+#![tactic(auto)]
+
 ghost use Rattle.std.specs.Prelude.{◌≡◌};
 ghost use Rattle.buffer_reader.specs.Reads.{take_byte, take_three, take_bits, take_bit, byte_of, three_of, bits_of, bit_of};
 
@@ -7,14 +9,14 @@ pub mod inner;
 pub mod reader;
 mod tail;
 
-#[derive(Drop)]
+#[derive(Clone, Copy)]
 pub struct Cursor {
     pub head: usize,
     pub tail: usize,
 }
 
 // Why a read or a write is refused, with the numbers of document 01; of 9, the tail cursor and not its bit index.
-#[derive(Drop)]
+#[derive(Clone, Copy)]
 pub enum BufferError {
     WrongLength(usize),
     WidthNotListed(usize),
@@ -22,25 +24,25 @@ pub enum BufferError {
     PastEnd(usize),
 }
 
-#[derive(Drop)]
+#[derive(Clone, Copy)]
 pub enum ByteRead {
     Byte(u8, Cursor),
     Refused(BufferError),
 }
 
-#[derive(Drop)]
+#[derive(Clone, Copy)]
 pub enum ThreeRead {
     Three(u32, Cursor),
     Refused(BufferError),
 }
 
-#[derive(Drop)]
+#[derive(Clone, Copy)]
 pub enum BitsRead {
     Bits(u32, Cursor),
     Refused(BufferError),
 }
 
-#[derive(Drop)]
+#[derive(Clone, Copy)]
 pub enum BitRead {
     Bit(bool, Cursor),
     Refused(BufferError),

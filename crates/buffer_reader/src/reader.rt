@@ -7,7 +7,7 @@ ghost use Rattle.buffer_reader.specs.Private.{Moves, cursor_at};
 
 use crate::{BufferError, Cursor};
 
-#[derive(Drop)]
+#[derive(Clone, Copy)]
 pub struct Reader<'a> {
     pub frame: &'a [u8],
     pub head: usize,
@@ -15,7 +15,7 @@ pub struct Reader<'a> {
 }
 
 // Which read: the next byte or three bytes from the head; a field of so many bits, or one bit, from the tail.
-#[derive(Drop)]
+#[derive(Clone, Copy)]
 pub enum Read {
     Byte,
     Three,
@@ -24,14 +24,14 @@ pub enum Read {
 }
 
 // What a read gave: a byte, the number of three bytes, a field, or a bit as 0 or 1.
-#[derive(Drop)]
+#[derive(Clone, Copy)]
 pub enum Taken {
     Value(u32),
     Refused(BufferError),
 }
 
 // Where the reader stands behind a read, and what the read gave.
-#[derive(Drop)]
+#[derive(Clone, Copy)]
 pub(crate) struct Moved {
     pub head: usize,
     pub tail: usize,

@@ -1,5 +1,7 @@
 // Writes into a lent buffer from both ends: whole bytes, or a byte's top bits, at its head, bits at its tail. The cursor goes
 // in by value and comes back in the answer; where the head and the tail meet nothing is refused.
+#![tactic(auto)]
+
 ghost use Rattle.std.specs.Prelude.{◌≡◌};
 ghost use Rattle.buffer_writer.specs.Writes.{write_field, write_bit, write_byte, write_top, field_written, bit_written, byte_written, top_written, written_of};
 
@@ -9,7 +11,7 @@ pub mod inner;
 mod tail;
 
 // The cursor behind what was written, or the refusal.
-#[derive(Drop)]
+#[derive(Clone, Copy)]
 pub enum Written {
     At(Cursor),
     Refused(BufferError),

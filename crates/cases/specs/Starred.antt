@@ -25,11 +25,11 @@ shown of (refused r) = r.number ∷ r.values
 abbrev decoded : ℕ → List ℕ
 decoded low =
     shown (λ (r : Decoded × Cursor). r.0.symbol ∷ r.0.state.low ∷ r.0.state.range ∷ r.1.head ∷ [])
-    (decode_symbol (record { low = low; range = 0x_ffffff }) (take 17 (flat_rows (64 * 17))) (replicate 20 0) (record { head = 3; tail = 0 }))
+    (decode_symbol (record { low = low; range = 0xFFFFFF }) (take 17 (flat_rows (64 * 17))) (replicate 20 0) (record { head = 3; tail = 0 }))
 
 -- the encoder near the end of 24 bits, with a byte in its cache
 abbrev near_the_end : EncoderState
-near_the_end = record { low = 0x_ff0001; range = 0x10000; held = 1; cache = 0; carry = 0; pending = 0; out = 0 }
+near_the_end = record { low = 0xFF0001; range = 0x10000; held = 1; cache = 0; carry = 0; pending = 0; out = 0 }
 
 -- an ending as numbers: bits, value, carry
 abbrev ended : Ending → List ℕ
@@ -67,8 +67,8 @@ starred =
     record { defined = decoded 16776191; stated = 0 ∷ 16 ∷ 982979 ∷ 982980 ∷ 3 ∷ [] } ∷
     -- 16776192: refused 11
     record { defined = decoded 16776192; stated = 11 ∷ 16776192 ∷ 16776192 ∷ [] } ∷
-    -- finish at low 0x_ff0001, range 0x10000: standard 9 bits, 0x_ff8000, no carry
-    record { defined = ended (ending 1 near_the_end); stated = 9 ∷ 0x_ff8000 ∷ 0 ∷ [] } ∷
+    -- finish at low 0xFF0001, range 0x10000: standard 9 bits, 0xFF8000, no carry
+    record { defined = ended (ending 1 near_the_end); stated = 9 ∷ 0xFF8000 ∷ 0 ∷ [] } ∷
     -- crate 8 bits, 0, carry
     record { defined = ended (ending 0 near_the_end); stated = 8 ∷ 0 ∷ 1 ∷ [] } ∷
     -- J 33460055: idx_a 2390003, idx_b 5, ls_indb 1

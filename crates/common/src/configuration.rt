@@ -2,7 +2,7 @@
 ghost use Rattle.std.specs.Prelude.{◌≡◌};
 ghost use Rattle.common.specs.Configuration.{configuration_passes, lines_of, reply_of, frame_lines, frame_lines_of};
 
-#[derive(Drop)]
+#[derive(Clone, Copy)]
 pub struct Configuration {
     pub fs_ind: usize,
     pub duration: usize,
@@ -10,14 +10,14 @@ pub struct Configuration {
 }
 
 // The number of encoded lines, or refusal 1.
-#[derive(Drop)]
+#[derive(Clone, Copy)]
 pub enum Lines {
     Encoded(usize),
     OutsideLimits,
 }
 
 // The same for a call on a frame of so many bytes: refusals 1 and 2.
-#[derive(Drop)]
+#[derive(Clone, Copy)]
 pub enum FrameLines {
     Encoded(usize),
     OutsideLimits,

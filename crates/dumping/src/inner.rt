@@ -62,7 +62,7 @@ fn configured(tag: u8, content: &[u8], before: Configuration) -> Configuration
 }
 
 fn counted(tag: u8, frames: usize) -> usize
-    requires { frames < 0x_ffffffffffffffff }
+    requires { frames < 0xFFFFFFFFFFFFFFFF }
     ensures { result ≡ frames + cond (eqb tag tag_frame) 1 0 }
 {
     if tag == tags::FRAME {
@@ -73,7 +73,7 @@ fn counted(tag: u8, frames: usize) -> usize
 
 // The state behind a field.
 fn state_with(tag: u8, content: &[u8], state: State) -> State
-    requires { state.frames < 0x_ffffffffffffffff }
+    requires { state.frames < 0xFFFFFFFFFFFFFFFF }
     ensures { result ≡ state_with state tag content.now }
 {
     let before = state.before;
@@ -97,7 +97,7 @@ fn print(
     coefficients: &[u16],
     out: &mut [u8],
 ) -> usize
-    requires { state.frames < 0x_ffffffffffffffff }
+    requires { state.frames < 0xFFFFFFFFFFFFFFFF }
     ensures length { result ≡ length (Dump·printed (record { state = state; tables = record { lookup = lookup.entry.now; frequencies = frequencies.now; bits = bits.now; orders = orders.now; coefficients = coefficients.now } }) tag content.now) }
     ensures lent { out.new ≡ sets out.old 0 (Dump·printed (record { state = state; tables = record { lookup = lookup.entry.now; frequencies = frequencies.now; bits = bits.now; orders = orders.now; coefficients = coefficients.now } }) tag content.now) }
 {
@@ -132,7 +132,7 @@ fn on_field(
     coefficients: &mut [u16],
     out: &mut [u8],
 ) -> Stepped
-    requires { state.frames < 0x_ffffffffffffffff }
+    requires { state.frames < 0xFFFFFFFFFFFFFFFF }
     ensures length { result.text ≡ length (step_on (record { state = state; tables = record { lookup = lookup.entry.now; frequencies = frequencies.old; bits = bits.old; orders = orders.old; coefficients = coefficients.old } }) tag content.now end).text }
     ensures next { result.next ≡ (step_on (record { state = state; tables = record { lookup = lookup.entry.now; frequencies = frequencies.old; bits = bits.old; orders = orders.old; coefficients = coefficients.old } }) tag content.now end).next }
     ensures state { result.state ≡ (step_on (record { state = state; tables = record { lookup = lookup.entry.now; frequencies = frequencies.old; bits = bits.old; orders = orders.old; coefficients = coefficients.old } }) tag content.now end).held.state }

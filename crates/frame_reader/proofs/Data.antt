@@ -79,9 +79,9 @@ ends-refusing P Q K (refused r) go h = go r h
 
 -- ---- the start
 
-pub start-taken : (f : List ℕ) (c : Cursor) → length f ≤ 65535 → c.head + 2 < length f → start_decoder f c ≡ accepted (record { low = three_at f c.head; range = 0x_ffffff }, record { head = c.head + 3; tail = c.tail })
+pub start-taken : (f : List ℕ) (c : Cursor) → length f ≤ 65535 → c.head + 2 < length f → start_decoder f c ≡ accepted (record { low = three_at f c.head; range = 0xFFFFFF }, record { head = c.head + 3; tail = c.tail })
 start-taken f c short there =
-    ap (λ (a : Answer (ℕ × Cursor)). and_then a (λ r. accepted (record { low = r.0; range = 0x_ffffff }, r.1))) (three-taken f c short there)
+    ap (λ (a : Answer (ℕ × Cursor)). and_then a (λ r. accepted (record { low = r.0; range = 0xFFFFFF }, r.1))) (three-taken f c short there)
 
 weighting-low : (duration bits : ℕ) → weighting_row duration bits ≤ 1
 weighting-low duration bits = by (ltb bits (cond (eqb duration 0) 480 360))
@@ -120,7 +120,7 @@ pub record Behind (reading fs ne : ℕ) (f : List ℕ) (r : Data × Cursor) : Ty
   pub sized : All (Sized (eqb reading 1)) r.0.pairs
   pub even : eqb r.0.side.lsb 1 ≡ true → All EvenPair r.0.pairs
   pub least : 0x10000 ≤ r.0.range
-  pub most : r.0.range ≤ 0x_ffffff
+  pub most : r.0.range ≤ 0xFFFFFF
   pub place : Inside f r.1
 
 module _ (k : Configuration) (ne : ℕ) (f lookup frequencies orders coefficients : List ℕ) (j : Judged k ne f lookup frequencies orders coefficients) where
@@ -177,8 +177,8 @@ module _ (k : Configuration) (ne : ℕ) (f lookup frequencies orders coefficient
           count = p.known.count;
           sized = p.known.each;
           even = λ h. (keeps-at (pairs-even lookup frequencies j.looked j.rows standard (rate_flag bits fs) ne 0 (s.lastnz / 2) 0) x.0.state f x.1 short b.range (both-here f x.1) (subst (λ t. read_pairs lookup frequencies standard t (rate_flag bits fs) ne 0 (s.lastnz / 2) 0 x.0.state f x.1 ≡ accepted y) h q)).known.each;
-          least = leb-true 0x10000 n (and_left (leb 0x10000 n) (leb n 0x_ffffff) passes);
-          most = leb-true n 0x_ffffff (and_right (leb 0x10000 n) (leb n 0x_ffffff) passes);
+          least = leb-true 0x10000 n (and_left (leb 0x10000 n) (leb n 0xFFFFFF) passes);
+          most = leb-true n 0xFFFFFF (and_right (leb 0x10000 n) (leb n 0xFFFFFF) passes);
           place = inside_on p.moved (inside_on (both-of-head b.moved) inside);
         }))
 
@@ -203,7 +203,7 @@ module _ (k : Configuration) (ne : ℕ) (f lookup frequencies orders coefficient
         subst (λ n. SideLimits fs n x.0) (sym same) (side-limits fs (lines·ne k.duration fs) x.0 (image-passes k f origin x.0 x.1 whole))
 
     -- the coder's start is never refused there
-    pub start-there : start_decoder f x.1 ≡ accepted (record { low = three_at f x.1.head; range = 0x_ffffff }, record { head = x.1.head + 3; tail = x.1.tail })
+    pub start-there : start_decoder f x.1 ≡ accepted (record { low = three_at f x.1.head; range = 0xFFFFFF }, record { head = x.1.head + 3; tail = x.1.tail })
     start-there = start-taken f x.1 short (omega (arith, side-ahead.same, ranges.3))
 
     start-inside : Inside f (record { head = x.1.head + 3; tail = x.1.tail })
@@ -217,7 +217,7 @@ module _ (k : Configuration) (ne : ℕ) (f lookup frequencies orders coefficient
     behind-side : Ends (InFrame k.reading) (Behind k.reading fs ne f) (and_then (start_in f x.1) (λ r. read_coded k t bits ne x.0 r.0 f r.1))
     behind-side =
         subst (λ (a : Answer (DecoderState × Cursor)). Ends (InFrame k.reading) (Behind k.reading fs ne f) (and_then (within start a) (λ r. read_coded k t bits ne x.0 r.0 f r.1))) (sym start-there)
-        (coded-ends x.0 side-known (record { low = three_at f x.1.head; range = 0x_ffffff }) (record { head = x.1.head + 3; tail = x.1.tail }) refl start-inside)
+        (coded-ends x.0 side-known (record { low = three_at f x.1.head; range = 0xFFFFFF }) (record { head = x.1.head + 3; tail = x.1.tail }) refl start-inside)
 
   pub data-ends : Ends (InFrame k.reading) (Behind k.reading fs ne f) (read_data k t bits ne f origin)
   data-ends =

@@ -187,7 +187,7 @@ module _ (reading ne : ℕ) (f : List ℕ) (h : Held) (c : Cursor) (before : Lis
 -- ---- what the residual stage asks
 
 -- the bits that are left end within the frame
-pub room_in : (f : List ℕ) (c : Cursor) (range room : ℕ) → 0x10000 ≤ range → range ≤ 0x_ffffff → available (8 * length f) c range ≡ accepted room → c.tail + room ≤ 8 * length f
+pub room_in : (f : List ℕ) (c : Cursor) (range room : ℕ) → 0x10000 ≤ range → range ≤ 0xFFFFFF → available (8 * length f) c range ≡ accepted room → c.tail + room ≤ 8 * length f
 room_in f c range room least most e =
     let g = given-split (ltb (8 * length f) (used_bits c range)) residual_negative (accepted (8 * length f - used_bits c range)) e in
     let fits : used_bits c range ≤ 8 * length f = ltb-false (8 * length f) (used_bits c range) g.0 in

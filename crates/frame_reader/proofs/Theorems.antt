@@ -90,7 +90,7 @@ pub record Bounded (f : List ℕ) (x : Frame) : Type 0 where
   pub three : 3 ≤ x.cursor.head
   pub head : x.cursor.head ≤ length f
   pub least : 0x10000 ≤ x.range
-  pub most : x.range ≤ 0x_ffffff
+  pub most : x.range ≤ 0xFFFFFF
 
 -- what stands behind an accepted frame
 record Parts (k : Configuration) (t : Tables) (f : List ℕ) (fr : Frame) : Type 0 where
@@ -104,7 +104,7 @@ record Parts (k : Configuration) (t : Tables) (f : List ℕ) (fr : Frame) : Type
   sized : All (Sized (eqb k.reading 1)) read.pairs
   even : eqb read.side.lsb 1 ≡ true → All EvenPair read.pairs
   least : 0x10000 ≤ read.range
-  most : read.range ≤ 0x_ffffff
+  most : read.range ≤ 0xFFFFFF
   fits : used_bits cursor read.range ≤ 8 * length f
   left : 8 * length f - used_bits cursor read.range ≡ room
   same : by_mode k.reading ne f read cursor room (eqb read.side.lsb 1) ≡ fr

@@ -153,7 +153,7 @@ pub record Standing (ne : ℕ) (f : List ℕ) (c : Cursor) (range lastnz : ℕ) 
   pub head : c.head ≤ length f
   pub tail : c.tail ≤ 8 * length f
   pub least : 0x10000 ≤ range
-  pub most : range ≤ 0x_ffffff
+  pub most : range ≤ 0xFFFFFF
   pub even : 2 * (lastnz / 2) ≡ lastnz
   pub last : lastnz ≤ ne
   pub two : 2 ≤ ne

@@ -38,7 +38,7 @@ pub record Printable (bytes : ℕ) (n : Numbers) (indices residual : List ℕ) (
   pub head : n.cursor.head ≤ bytes
   pub tail : n.cursor.tail ≤ 8 * bytes
   pub least : 0x10000 ≤ n.range
-  pub most : n.range ≤ 0x_ffffff
+  pub most : n.range ≤ 0xFFFFFF
   pub used : used_bits n.cursor n.range ≤ 8 * bytes
 
 -- four, seven and nine lines by what the reader returned

@@ -161,7 +161,7 @@ pub(crate) fn seed(out: &mut [u8], at: usize, seed: u32, zero: bool) -> usize
 }
 
 pub(crate) fn used(out: &mut [u8], at: usize, bytes: usize, last: Cursor, range: u32) -> usize
-    requires { (at ≤ 60000) × (bytes ≤ 400) × (3 ≤ last.head) × (last.head ≤ bytes) × (last.tail ≤ 8 * bytes) × (0x10000 ≤ range) × (range ≤ 0x_ffffff) × (used_bits last range ≤ 8 * bytes) }
+    requires { (at ≤ 60000) × (bytes ≤ 400) × (3 ≤ last.head) × (last.head ≤ bytes) × (last.tail ≤ 8 * bytes) × (0x10000 ≤ range) × (range ≤ 0xFFFFFF) × (used_bits last range ≤ 8 * bytes) }
     ensures text { Laid out.old at (used_line (used_bits last range) (8 * bytes - used_bits last range)) out.new result }
 {
     let used = residual_data::inner::used_bits(last, range);

@@ -77,17 +77,17 @@ origin = record { head = 0; tail = 0 }
 -- ---- the coder's start
 
 record Started (b : Cursor) (y : DecoderState × Cursor) : Type 0 where
-  range : y.0.range ≡ 0x_ffffff
+  range : y.0.range ≡ 0xFFFFFF
   head : y.1.head ≡ b.head + 3
   tail : y.1.tail ≡ b.tail
 
 start-at : (f : List ℕ) (b : Cursor) (y : DecoderState × Cursor) → start_in f b ≡ accepted y → Started b y
 start-at f b y e =
-    let p = then-split (take_three f b) (λ r. found (record { low = r.0; range = 0x_ffffff }) f r.1) (within-split start (start_decoder f b) e) in
+    let p = then-split (take_three f b) (λ r. found (record { low = r.0; range = 0xFFFFFF }) f r.1) (within-split start (start_decoder f b) e) in
     let a = given-split (ltb 65535 (length f)) (wrong_length (length f)) _ p.1 in
     let g = given-split (leb (length f) (b.head + 2)) (head_past_end b.head) _ a.1 in
     let moved : ◌≡◌ {A = ℕ × Cursor} (three_at f b.head, record { head = b.head + 3; tail = b.tail }) p.0 = accepted-same g.1 in
-    let all : ◌≡◌ {A = DecoderState × Cursor} (record { low = p.0.0; range = 0x_ffffff }, p.0.1) y = accepted-same p.2 in
+    let all : ◌≡◌ {A = DecoderState × Cursor} (record { low = p.0.0; range = 0xFFFFFF }, p.0.1) y = accepted-same p.2 in
     record {
       range = ap (λ (v : DecoderState × Cursor). v.0.range) (sym all);
       head = ap (λ (v : DecoderState × Cursor). v.1.head) (sym all) ∙ ap (λ (v : ℕ × Cursor). v.1.head) (sym moved);
@@ -204,7 +204,7 @@ module _ (k : Configuration) (t : Tables) (f : List ℕ) (n : ℕ) (lines : fram
           omega (arith, behind-all.1, filters-tail, begun.tail, took.tail, length-append (fields_bits (side_fields k.fs_ind n s)) late, fields-bits-length (side_fields k.fs_ind n s))
 
       -- 16, where 12 was passed: both leave the same room
-      room-taken : 0x10000 ≤ pr.0.state.range → pr.0.state.range ≤ 0x_ffffff → used_bits pr.1 pr.0.state.range ≤ bits → length (early_bits k.fs_ind n (content ls rs)) + reserved symbols + (bits - used_bits pr.1 pr.0.state.range) ≡ bits
+      room-taken : 0x10000 ≤ pr.0.state.range → pr.0.state.range ≤ 0xFFFFFF → used_bits pr.1 pr.0.state.range ≤ bits → length (early_bits k.fs_ind n (content ls rs)) + reserved symbols + (bits - used_bits pr.1 pr.0.state.range) ≡ bits
       room-taken least most fits = omega (arith, reserved-is, early-is, log-range pr.0.state.range least (omega arith), fits)
 
 -- ---- the lines as they are returned

@@ -39,7 +39,7 @@ module _ (s : DecoderState) (row : List ℕ) where
       let starts : unit_of s.range * cumulative row k ≤ s.low = rw g.symbol o.starts in
       let ends : s.low < unit_of s.range * cumulative row k + unit_of s.range * get_or row k 0 = rw g.symbol o.ends in
       let most = part-within row passed (unit_of s.range) k there in
-      let range : s.range ≤ 0x_ffffff = (range-limits s.range within).1 in
+      let range : s.range ≤ 0xFFFFFF = (range-limits s.range within).1 in
       (omega (arith, g.base-is), record { most = omega (arith, g.width-is); below = omega (arith, g.base-is, g.width-is) })
 
   module _ (f : List ℕ) (c : Cursor) where

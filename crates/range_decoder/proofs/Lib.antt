@@ -5,4 +5,3 @@ pub mod Renormal
 pub mod Appends
 pub mod Answers
 pub mod Unique
-pub mod Beside

@@ -22,9 +22,9 @@ use Rattle.range_decoder.proofs.Owners.{owner_owns}
 use Rattle.range_decoder.proofs.Shares.{shares-given}
 
 -- a range within its limits
-pub range-limits : (range : ℕ) → range_passes range ≡ true → (0x10000 ≤ range) × (range ≤ 0x_ffffff)
+pub range-limits : (range : ℕ) → range_passes range ≡ true → (0x10000 ≤ range) × (range ≤ 0xFFFFFF)
 range-limits range e =
-    (leb-true 0x10000 range (and_left (leb 0x10000 range) (leb range 0x_ffffff) e), leb-true range 0x_ffffff (and_right (leb 0x10000 range) (leb range 0x_ffffff) e))
+    (leb-true 0x10000 range (and_left (leb 0x10000 range) (leb range 0xFFFFFF) e), leb-true range 0xFFFFFF (and_right (leb 0x10000 range) (leb range 0xFFFFFF) e))
 
 -- the range behind one turn, by the test of it
 abbrev turned : Bool → ℕ → ℕ
@@ -37,19 +37,19 @@ turn-range : (below : Bool) (s : DecoderState) (f : List ℕ) (c : Cursor) (t : 
 turn-range true s f c t d e = range_same _ _ (then-split (take_byte f c) _ e).2
 turn-range false s f c t d e = range_same _ _ e
 
--- a turn takes a range from n on to 256*n or past 0x10000, and never past 0x_ffffff
-turned-bounds : (below : Bool) (n range : ℕ) → ltb range 0x10000 ≡ below → n ≤ 256 → n ≤ range → range ≤ 0x_ffffff → (n * 256 ≤ turned below range) × (turned below range ≤ 0x_ffffff)
+-- a turn takes a range from n on to 256*n or past 0x10000, and never past 0xFFFFFF
+turned-bounds : (below : Bool) (n range : ℕ) → ltb range 0x10000 ≡ below → n ≤ 256 → n ≤ range → range ≤ 0xFFFFFF → (n * 256 ≤ turned below range) × (turned below range ≤ 0xFFFFFF)
 turned-bounds true n range e small least most = (omega arith, omega (arith, ltb-true range 0x10000 e))
 turned-bounds false n range e small least most = (omega (arith, ltb-false range 0x10000 e), omega arith)
 
 -- one turn, whichever way its test goes
-one-turn : (n : ℕ) (s : DecoderState) (f : List ℕ) (c : Cursor) (t : DecoderState) (d : Cursor) → n ≤ 256 → n ≤ s.range → s.range ≤ 0x_ffffff → append_byte s f c ≡ accepted (t, d) → (n * 256 ≤ t.range) × (t.range ≤ 0x_ffffff)
+one-turn : (n : ℕ) (s : DecoderState) (f : List ℕ) (c : Cursor) (t : DecoderState) (d : Cursor) → n ≤ 256 → n ≤ s.range → s.range ≤ 0xFFFFFF → append_byte s f c ≡ accepted (t, d) → (n * 256 ≤ t.range) × (t.range ≤ 0xFFFFFF)
 one-turn n s f c t d small least most e =
     rw (turn-range (ltb s.range 0x10000) s f c t d e)
     (turned-bounds (ltb s.range 0x10000) n s.range refl small least most)
 
 -- from 64 on the first turn leaves 0x4000 at least, so the second 0x10000
-pub renormalised-range : (s : DecoderState) (f : List ℕ) (c : Cursor) (t : DecoderState) (d : Cursor) → 64 ≤ s.range → s.range ≤ 0x_ffffff → renormalised s f c ≡ accepted (t, d) → (0x10000 ≤ t.range) × (t.range ≤ 0x_ffffff)
+pub renormalised-range : (s : DecoderState) (f : List ℕ) (c : Cursor) (t : DecoderState) (d : Cursor) → 64 ≤ s.range → s.range ≤ 0xFFFFFF → renormalised s f c ≡ accepted (t, d) → (0x10000 ≤ t.range) × (t.range ≤ 0xFFFFFF)
 renormalised-range s f c t d least most e =
     let p = then-split (append_byte s f c) (λ r. append_byte r.0 f r.1) e in
     let first = one-turn 64 s f c p.0.0 p.0.1 (omega arith) least most p.1 in
@@ -68,4 +68,4 @@ step_range s row f c r d within passed e =
     let b =
     renormalised-range (narrowed (unit_of n) s.low row k) f c p.0.0 p.0.1 own.least (omega (arith, own.most)) p.1 in
     let same : r.state.range ≡ p.0.0.range = sym (ap (λ (x : Decoded × Cursor). x.0.state.range) (accepted-same p.2)) in
-    rw same (and_both (leb 0x10000 p.0.0.range) (leb p.0.0.range 0x_ffffff) (le-leb 0x10000 _ b.0) (le-leb _ 0x_ffffff b.1))
+    rw same (and_both (leb 0x10000 p.0.0.range) (leb p.0.0.range 0xFFFFFF) (le-leb 0x10000 _ b.0) (le-leb _ 0xFFFFFF b.1))

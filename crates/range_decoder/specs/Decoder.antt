@@ -16,9 +16,9 @@ use Rattle.range_decoder.specs.declared.Started.TheVariants.{At, Refused as Star
 use Rattle.range_decoder.specs.declared.SymbolRead.{SymbolRead}
 use Rattle.range_decoder.specs.declared.SymbolRead.TheVariants.{Symbol, Refused as SymbolRefused}
 
--- "Decoder start: low is three head bytes, range 0x_ffffff"
+-- "Decoder start: low is three head bytes, range 0xFFFFFF"
 abbrev pub start_decoder : Reading DecoderState
-start_decoder = next take_three (λ low. found (record { low = low; range = 0x_ffffff }))
+start_decoder = next take_three (λ low. found (record { low = low; range = 0xFFFFFF }))
 
 -- "r = range >> 10": what one unit of frequency is worth
 abbrev pub unit_of : ℕ → ℕ
@@ -56,9 +56,9 @@ symbol_step s row =
     refusing (leb (1024 * r) s.low) (low_beyond_limit s.low (1024 * r))
     (next (renormalised (narrowed r s.low row k)) (λ t. found (record { symbol = k; state = t })))
 
--- 1, "range of a lent decoder state (0x10000..0x_ffffff)"
+-- 1, "range of a lent decoder state (0x10000..0xFFFFFF)"
 abbrev pub range_passes : ℕ → Bool
-range_passes range = leb 0x10000 range && leb range 0x_ffffff
+range_passes range = leb 0x10000 range && leb range 0xFFFFFF
 
 -- "leaves 1, 2, 3, 17, then 9, 10 or 11": the step on a state and a row that are lent
 abbrev pub decode_symbol : DecoderState → List ℕ → Reading Decoded

@@ -11,7 +11,7 @@ use Rattle.range_decoder.specs.declared.inner.Appended.TheVariants.{Filled, Refu
 
 -- what holds inside a step: low is below the range, and the range below 2^24
 pub record Below (s : DecoderState) : Type 0 where
-  pub most : s.range ≤ 0x_ffffff
+  pub most : s.range ≤ 0xFFFFFF
   pub below : s.low < s.range
 
 abbrev pub appended_of : Appended → Answer (DecoderState × Cursor)

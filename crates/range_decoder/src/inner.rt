@@ -7,7 +7,7 @@ ghost use Rattle.range_decoder.specs.Private.{Below, appended_of};
 use crate::{CodecError, DecoderState, SymbolRead};
 use buffer_reader::Cursor;
 
-#[derive(Drop)]
+#[derive(Clone, Copy)]
 pub(crate) enum Appended {
     Filled(DecoderState, Cursor),
     Refused(CodecError),

@@ -7,14 +7,14 @@ ghost use Rattle.range_decoder.specs.Private.{Steps};
 use crate::{CodecError, DecoderState};
 use buffer_reader::Cursor;
 
-#[derive(Drop)]
+#[derive(Clone, Copy)]
 pub enum SymbolAt {
     Symbol(usize, Cursor),
     Refused(CodecError),
 }
 
 // The state behind the step, and what the step gave.
-#[derive(Drop)]
+#[derive(Clone, Copy)]
 pub(crate) struct Stepped {
     pub state: DecoderState,
     pub given: SymbolAt,

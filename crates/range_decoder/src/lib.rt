@@ -1,4 +1,6 @@
 // The range decoder: its start and its symbol step. The state and the cursor go in by value and come back in the answer.
+#![tactic(auto)]
+
 ghost use Rattle.std.specs.Prelude.{◌≡◌};
 ghost use Rattle.range_decoder.specs.Decoder.{start_decoder, decode_symbol, started_of, symbol_of};
 
@@ -8,14 +10,14 @@ pub mod inner;
 pub mod lent;
 mod row;
 
-#[derive(Drop)]
+#[derive(Clone, Copy)]
 pub struct DecoderState {
     pub low: u32,
     pub range: u32,
 }
 
 // Why the coder refuses, with the numbers of document 01.
-#[derive(Drop)]
+#[derive(Clone, Copy)]
 pub enum CodecError {
     OutsideLimits,
     RowFails,
@@ -23,13 +25,13 @@ pub enum CodecError {
     Buffer(BufferError),
 }
 
-#[derive(Drop)]
+#[derive(Clone, Copy)]
 pub enum Started {
     At(DecoderState, Cursor),
     Refused(CodecError),
 }
 
-#[derive(Drop)]
+#[derive(Clone, Copy)]
 pub enum SymbolRead {
     Symbol(usize, DecoderState, Cursor),
     Refused(CodecError),

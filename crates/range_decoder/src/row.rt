@@ -4,7 +4,7 @@ ghost use Rattle.common.proofs.Halves.{Among};
 ghost use Rattle.common.specs.Tables.{row_passes, cumulative};
 ghost use Rattle.range_decoder.specs.Decoder.{owner};
 
-#[derive(Drop)]
+#[derive(Clone, Copy)]
 pub(crate) struct Owned {
     pub symbol: usize,
     pub base: u32,
@@ -14,7 +14,7 @@ pub(crate) struct Owned {
 
 // What a search has come to: the owner is among so many symbols from one on. The frequencies before it are summed, its part begins at
 // base, and the parts that are left end at end.
-#[derive(Drop)]
+#[derive(Clone, Copy)]
 pub(crate) struct Rest {
     pub symbol: usize,
     pub left: usize,
@@ -25,7 +25,7 @@ pub(crate) struct Rest {
 }
 
 // A product, and how many were made with it.
-#[derive(Drop)]
+#[derive(Clone, Copy)]
 pub(crate) struct Product {
     pub value: u32,
     pub made: usize,

@@ -41,18 +41,18 @@ end-held s f c past =
 pub carry-kept : (s : EncoderState) → Fits s → Carries s → 0 < s.range → s.carry ≡ 1 → (s.held ≡ 1) × (s.cache < 255)
 carry-kept s f c pos e = (end-held s f c (omega arith), omega arith)
 
--- what is held is not settled: the next byte is 0x_ff, and no carry is there yet
-pub not-settled : (s : EncoderState) → Fits s → settles s ≡ false → (0x_ff0000 ≤ s.low) × (s.carry ≡ 0)
+-- what is held is not settled: the next byte is 0xFF, and no carry is there yet
+pub not-settled : (s : EncoderState) → Fits s → settles s ≡ false → (0xFF0000 ≤ s.low) × (s.carry ≡ 0)
 not-settled s f e =
-    let no-carry : eqb s.carry 1 ≡ false = or-fails-second (ltb s.low 0x_ff0000) (eqb s.carry 1) e in
-    let high : ltb s.low 0x_ff0000 ≡ false = or-false (ltb s.low 0x_ff0000) no-carry ∙ e in
-    omega (arith, ltb-false s.low 0x_ff0000 high, eqb-false s.carry 1 no-carry)
+    let no-carry : eqb s.carry 1 ≡ false = or-fails-second (ltb s.low 0xFF0000) (eqb s.carry 1) e in
+    let high : ltb s.low 0xFF0000 ≡ false = or-false (ltb s.low 0xFF0000) no-carry ∙ e in
+    omega (arith, ltb-false s.low 0xFF0000 high, eqb-false s.carry 1 no-carry)
 
 -- what is held is settled: the interval ends before a carry could reach it once more
 end-settled : (s : EncoderState) → Carries s → s.range < 0x10000 → settles s ≡ true → s.low + s.range ≤ 0x1000000
 end-settled s c short e =
-    ⊎_elim (λ t. omega (arith, ltb-true s.low 0x_ff0000 t)) (λ t. omega (arith, eqb-true s.carry 1 t))
-    (or_split (ltb s.low 0x_ff0000) (eqb s.carry 1) e)
+    ⊎_elim (λ t. omega (arith, ltb-true s.low 0xFF0000 t)) (λ t. omega (arith, eqb-true s.carry 1 t))
+    (or_split (ltb s.low 0xFF0000) (eqb s.carry 1) e)
 
 -- a byte more in the state bounds what may still be carried as before
 pub carries-shifted : (s : EncoderState) → Fits s → Carries s → s.range < 0x10000 → Carries (with_range (shifted s) (s.range * 256))
@@ -65,7 +65,7 @@ carries-shifted s f c short =
     let waits = not-settled s f e in
     rw e (record { once = omega arith; kept = omega arith; first = λ z. omega (arith, c.first z) }))
 
--- what is sent is what is held, and a carry: the cache takes it, and the 0x_f_fs behind become zeros
+-- what is sent is what is held, and a carry: the cache takes it, and the 0xFFs behind become zeros
 number-sent : (a held cache carry pending : ℕ) → cache < 256 → carry ≤ 1 → (carry ≡ 1 → (held ≡ 1) × (cache < 255))
     → number_from a (replicate held ((cache + carry) % 256) ++ replicate pending ((carry + 255) % 256))
     ≡ number_from a (replicate held cache ++ replicate pending 255) + carry
@@ -87,7 +87,7 @@ digits-sent w s f c pos e =
     rw (e, from-append, from-append 0 w (held_digits s))
     (number-sent (number w) s.held s.cache s.carry s.pending f.cache-fits f.carry-most (carry-kept s f c pos))
 
--- one 0x_ff more waits
+-- one 0xFF more waits
 pub digits-waiting : (w : List ℕ) (held cache pending : ℕ)
     → number (w ++ (replicate held cache ++ replicate (pending + 1) 255)) ≡ number (w ++ (replicate held cache ++ replicate pending 255)) * 256 + 255
 digits-waiting w held cache pending =

@@ -43,17 +43,17 @@ mask_step b few =
     let one : suc left ≡ 2 ^ (24 - b) = omega (arith, pow_pos (24 - b)) in
     let steps : suc left * 2 ^ b ≡ 0x1000000 = ap (λ (q : ℕ). q * 2 ^ b) one ∙ mul_comm (2 ^ (24 - b)) (2 ^ b) ∙ step-whole b few in
     let rest : 2 ^ b - 1 < 2 ^ b = omega (arith, pow_pos b) in
-    let all : 0x_ffffff ≡ left * 2 ^ b + (2 ^ b - 1) = omega (arith, pow_pos b, rw suc-mul at steps) in
+    let all : 0xFFFFFF ≡ left * 2 ^ b + (2 ^ b - 1) = omega (arith, pow_pos b, rw suc-mul at steps) in
     let mask : mask_of b ≡ left = ap (λ (n : ℕ). n / 2 ^ b) all ∙ digits_div left rest in
     omega arith
 
 -- one bit more halves it
 mask-half : (b : ℕ) → mask_of b / 2 ≡ mask_of (b + 1)
-mask-half b = shr-shr 0x_ffffff b 1
+mask-half b = shr-shr 0xFFFFFF b 1
 
 -- it has 24 bits
 pub mask_fits : (b : ℕ) → mask_of b < 0x1000000
-mask_fits b = omega (arith, div-le_self 0x_ffffff (2 ^ b))
+mask_fits b = omega (arith, div-le_self 0xFFFFFF (2 ^ b))
 
 -- low rounded up to a multiple of a step, mask + 1
 module _ (low mask : ℕ) where

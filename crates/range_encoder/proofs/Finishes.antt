@@ -80,7 +80,7 @@ odd times (suc k) e =
     let double : times * 2 ^ k * 2 ≡ 255 = mul_assoc times (2 ^ k) 2 ∙ rw pow-suc at e in
     absurd (omega arith)
 
--- what is held still waits: low's top byte is 0x_ff, so all 8 bits of it are own; and a byte is held, since the end passes 24 bits
+-- what is held still waits: low's top byte is 0xFF, so all 8 bits of it are own; and a byte is held, since the end passes 24 bits
 shift-waiting : (u : EncoderState) (b times : ℕ) → settles u ≡ false → Fits u → Carries u → b ≤ 8 → u.range ≡ 2 ^ (8 - b) * 0x10000 → u.low ≡ times * 2 ^ (8 - b) * 0x10000 → Closed (shifted u) b
 shift-waiting u b times e fits carries most range step =
     let waits = not-settled u fits e in
@@ -106,7 +106,7 @@ shift-closed u b times fits carries most range step =
 shifts-closed : (u : EncoderState) (times : ℕ) → u.low ≡ times * 0x8000 → Closed (shifted (shifted u)) 1
 shifts-closed u times step =
     let ninth : (shifted u).low ≡ times % 2 * 128 * 0x10000 = omega arith in
-    let settled : settles (shifted u) ≡ true = rw (lt-ltb (shifted u).low 0x_ff0000 (omega arith)) refl in
+    let settled : settles (shifted u) ≡ true = rw (lt-ltb (shifted u).low 0xFF0000 (omega arith)) refl in
     shift-settled (shifted u) 1 (times % 2) settled (omega arith) ninth
 
 -- the step of the last of up to 8 bits is that of a byte's bit, two bytes up
@@ -235,7 +235,7 @@ finish-held reading s sound = (closed reading s sound).held
 pub pushed-held : (reading : ℕ) (xs : List Sent) → AllPass xs → (finish_state reading (state_behind start_encoder xs)).held ≡ 1
 pushed-held reading xs all = finish-held reading (state_behind start_encoder xs) (sound-behind start_encoder xs sound-start all)
 
--- 0x_f_fs that still wait mean that all 8 bits of the last byte are sent, so the source's 0xff >> (8 - bits) is 0xff
+-- 0xFFs that still wait mean that all 8 bits of the last byte are sent, so the source's 0xff >> (8 - bits) is 0xff
 pub pending-whole : (reading : ℕ) (xs : List Sent) → AllPass xs → 0 < (finish_state reading (state_behind start_encoder xs)).pending → own_bits reading xs ≡ 8
 pending-whole reading xs all = (closed reading (state_behind start_encoder xs) (sound-behind start_encoder xs sound-start all)).whole
 

@@ -15,7 +15,7 @@ use Rattle.range_encoder.proofs.Symbols.{symbol-given}
 
 -- one between two turns, whose range may be short
 record Short (i : Interval) : Type 0 where
-  range-most : i.range ≤ 0x_ffffff
+  range-most : i.range ≤ 0xFFFFFF
   inside : i.base + i.range ≤ 2 ^ (24 + 8 * i.shifts)
 
 -- a string with a byte more has 256 times as many numbers

@@ -1,4 +1,4 @@
--- Bytes as digits: one byte more, one list behind another, and a carry that passes through 0x_f_fs. Assumes nothing.
+-- Bytes as digits: one byte more, one list behind another, and a carry that passes through 0xFFs. Assumes nothing.
 use Prim.Native.Nat.{ℕ, zero, suc, ◌+◌, ◌*◌}
 use mathlib.Core.Path.{◌≡◌, refl, ap, ◌∙◌}
 use mathlib.Core.List.{List, [], ◌∷◌, ◌++◌}
@@ -21,7 +21,7 @@ pub from_one : (a b : ℕ) → number_from a (b ∷ []) ≡ a * 256 + b
 unfolding number_from
 from_one a b = refl
 
--- a carry into 0x_f_fs passes through them and leaves zeros
+-- a carry into 0xFFs passes through them and leaves zeros
 pub carry-through : (a n : ℕ) → number_from (a + 1) (replicate n 0) ≡ number_from a (replicate n 255) + 1
 unfolding number_from
 carry-through a zero = refl

@@ -30,7 +30,7 @@ own-append f at xs ys last bits = rw (length-append xs ys, sets-append f at xs y
 pub own-none : (f whole : List ℕ) (s : EncoderState) (bits : ℕ) → s.pending ≡ 0 → whole ≡ set f s.out (with_top (get_or f s.out 0) s.cache bits) → whole ≡ with_own f s.out (held_bytes s) (last_byte s bits) bits
 own-none f whole s bits none e = rw (e, eq-eqb s.pending 0 none, add-zero s.out) refl
 
--- 0x_f_fs wait: the cache, all of them but one, and the top bits of the last
+-- 0xFFs wait: the cache, all of them but one, and the top bits of the last
 pub own-more : (f first second whole : List ℕ) (s : EncoderState) (bits : ℕ) → ¬ (s.pending ≡ 0) → first ≡ set f s.out s.cache → second ≡ sets first (s.out + 1) (replicate (s.pending - 1) 255) → whole ≡ set second (s.out + s.pending) (with_top (get_or second (s.out + s.pending) 0) (255 / 2 ^ (8 - bits)) bits) → whole ≡ with_own f s.out (held_bytes s) (last_byte s bits) bits
 own-more f first second whole s bits some one two last =
     rw (last, two, one, held-length s, ne_eqb s.pending 0 some, add-one s.out) refl

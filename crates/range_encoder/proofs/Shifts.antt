@@ -20,7 +20,7 @@ module _ (s : EncoderState) where
   pub bytes-settled : settles s ≡ true → shift_bytes s ≡ replicate s.held ((s.cache + s.carry) % 256) ++ replicate s.pending ((s.carry + 255) % 256)
   bytes-settled e = rw e refl
 
-  -- not settled: one 0x_ff more waits
+  -- not settled: one 0xFF more waits
   pub shift-waits : settles s ≡ false → shifted s ≡ record { low = s.low * 256 % 0x1000000; range = s.range; held = s.held; cache = s.cache; carry = s.carry; pending = s.pending + 1; out = s.out }
   shift-waits e = rw e refl
 

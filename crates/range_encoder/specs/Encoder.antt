@@ -7,15 +7,15 @@ use Rattle.range_decoder.specs.Decoder.{unit_of}
 use Rattle.range_encoder.specs.declared.EncoderState.{EncoderState}
 
 abbrev pub start_encoder : EncoderState
-start_encoder = record { low = 0; range = 0x_ffffff; held = 0; cache = 0; carry = 0; pending = 0; out = 0 }
+start_encoder = record { low = 0; range = 0xFFFFFF; held = 0; cache = 0; carry = 0; pending = 0; out = 0 }
 
--- S: the bytes out, the one in the cache, and the 0x_f_fs that wait behind it
+-- S: the bytes out, the one in the cache, and the 0xFFs that wait behind it
 abbrev pub shifts_of : EncoderState → ℕ
 shifts_of s = s.out + s.held + s.pending
 
 -- what is held is settled: no carry can reach it any more, or the carry is there
 abbrev pub settles : EncoderState → Bool
-settles s = ltb s.low 0x_ff0000 || eqb s.carry 1
+settles s = ltb s.low 0xFF0000 || eqb s.carry 1
 
 -- `ac_shift`: the bytes that it sends
 abbrev pub shift_bytes : EncoderState → List ℕ

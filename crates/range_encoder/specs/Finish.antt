@@ -30,7 +30,7 @@ ending_at s bits val = record { bits = bits; value = val; carry = cond (ltb val 
 abbrev pub ending : ℕ → EncoderState → Ending
 ending reading s =
     let bits = 24 - floor_log2 s.range in
-    let mask = 0x_ffffff / 2 ^ bits in
+    let mask = 0xFFFFFF / 2 ^ bits in
     let over1 = (s.low + mask) / 0x1000000 in
     let high = s.low + s.range in
     let over2 = high / 0x1000000 in
@@ -56,7 +56,7 @@ pushed_bytes s bits = cond (ltb 8 bits) (shift_bytes s ++ shift_bytes (shifted s
 abbrev pub last_bits : ℕ → ℕ
 last_bits bits = cond (ltb 8 bits) (bits - 8) bits
 
--- then what is held: where 0x_f_fs wait, the cache and all of them but one are whole bytes, and the last is made anew
+-- then what is held: where 0xFFs wait, the cache and all of them but one are whole bytes, and the last is made anew
 abbrev pub held_bytes : EncoderState → List ℕ
 held_bytes s = cond (eqb s.pending 0) [] (s.cache ∷ replicate (s.pending - 1) 255)
 

@@ -21,7 +21,7 @@ pub record Interval : Type 0 where
   pub shifts : ℕ
 
 abbrev pub whole : Interval
-whole = record { base = 0; range = 0x_ffffff; shifts = 0 }
+whole = record { base = 0; range = 0xFFFFFF; shifts = 0 }
 
 -- the part of the interval that is a symbol's own
 abbrev pub part : Interval → Sent → Interval

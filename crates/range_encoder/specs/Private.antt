@@ -30,7 +30,7 @@ pub record Sound (s : EncoderState) : Type 0 where
 
 -- the finish's mask for so many bits
 abbrev pub mask_of : ℕ → ℕ
-mask_of bits = 0x_ffffff / 2 ^ bits
+mask_of bits = 0xFFFFFF / 2 ^ bits
 
 -- the state that the finish sends, with what its own bits leave open as its range
 abbrev pub closing : EncoderState → Ending → EncoderState

@@ -18,10 +18,10 @@ use Rattle.range_encoder.specs.declared.EncoderState.{EncoderState}
 -- 1, `interval-bounded`: an interval between two symbols ends within its string, whose numbers are those below 2^(24 + 8S)
 pub record Within (i : Interval) : Type 0 where
   pub range-least : 0x10000 ≤ i.range
-  pub range-most : i.range ≤ 0x_ffffff
+  pub range-most : i.range ≤ 0xFFFFFF
   pub inside : i.base + i.range ≤ 2 ^ (24 + 8 * i.shifts)
 
--- 2, `carry-exact`: the digits that are held are the cache and the 0x_f_fs behind it
+-- 2, `carry-exact`: the digits that are held are the cache and the 0xFFs behind it
 abbrev pub held_digits : EncoderState → List ℕ
 held_digits s = replicate s.held s.cache ++ replicate s.pending 255
 
@@ -31,7 +31,7 @@ pub record Holds (w : List ℕ) (s : EncoderState) (i : Interval) : Type 0 where
   pub shifts : shifts_of s ≡ i.shifts
   pub sent : length w ≡ s.out
   pub digits : (number (w ++ held_digits s) + s.carry) * 0x1000000 + s.low ≡ i.base
-  -- no byte in the cache: none is out either, and at most 0x_f_fs wait
+  -- no byte in the cache: none is out either, and at most 0xFFs wait
   pub unsent : s.held ≡ 0 → w ≡ []
 
 -- so it is behind any symbols, and a carry that is known has a byte in the cache that takes it
@@ -114,7 +114,7 @@ one = second ∷ []
 
 -- a frame that begins with the bits 00000001 0, and goes on with ones
 abbrev pub ones : List ℕ
-ones = 0x01 ∷ 0x7_f ∷ 0x_ff ∷ 0x_ff ∷ []
+ones = 0x01 ∷ 0x7F ∷ 0xFF ∷ 0xFF ∷ []
 
 -- what is sent for the symbol in a reading: whole bytes, and the top bits of one more
 pub record Sends (reading : ℕ) (bytes : List ℕ) (last bits : ℕ) : Type 0 where
@@ -125,16 +125,16 @@ pub record Sends (reading : ℕ) (bytes : List ℕ) (last bits : ℕ) : Type 0 w
 -- in the crate reading a frame may begin with all the own bits and still lie outside the interval
 pub record FinishOutside : Type 0 where
   pub passes : Passes second
-  pub interval : behind whole one ≡ record { base = 0x_bffd00; range = 0x_bffd00; shifts = 1 }
+  pub interval : behind whole one ≡ record { base = 0xBFFD00; range = 0xBFFD00; shifts = 1 }
   -- the source sends nine bits, 00000001 0
   pub by-crate : Sends 0 (1 ∷ []) 0 1
   -- a frame of bytes begins with them
   pub bytes : Bytes ones
   pub begins : Continues ones 0 (1 ∷ []) 0 1
   -- yet the number of its 3 + S bytes is not below the interval's end
-  pub number_is : head_number ones 0 4 ≡ 0x17_fffff
+  pub number_is : head_number ones 0 4 ≡ 0x17FFFFF
   pub outside : (behind whole one).base + (behind whole one).range ≤ head_number ones 0 (3 + (behind whole one).shifts)
   -- and the decoder reads the third symbol instead of the second
-  pub misread : next start_decoder (λ s. decode_all s one) ones (record { head = 0; tail = 0 }) ≡ accepted (record { symbol = 2; state = record { low = 5; range = 0x_fe7_c06 } } ∷ [], record { head = 3; tail = 0 })
+  pub misread : next start_decoder (λ s. decode_all s one) ones (record { head = 0; tail = 0 }) ≡ accepted (record { symbol = 2; state = record { low = 5; range = 0xFE7C06 } } ∷ [], record { head = 3; tail = 0 })
   -- the standard sends ten bits, 00000000 11
-  pub by-standard : Sends 1 (0 ∷ []) 0x_c0 2
+  pub by-standard : Sends 1 (0 ∷ []) 0xC0 2

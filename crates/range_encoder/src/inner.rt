@@ -31,7 +31,7 @@ fn settles(st: EncoderState) -> bool
     st.carry == 1
 }
 
-// The byte in the cache and the 0x_f_fs behind it, with the carry that passes through them.
+// The byte in the cache and the 0xFFs behind it, with the carry that passes through them.
 fn send_held(buf: &mut [u8], st: EncoderState)
     requires { (Fits st) × (Encoder·settles st ≡ true) × (shifts_of st ≤ length buf.old) }
     ensures { buf.new ≡ sets buf.old st.out (shift_bytes st) }

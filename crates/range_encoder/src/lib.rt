@@ -12,7 +12,7 @@ pub struct EncoderState {
     pub held: usize,
     pub cache: u32,
     pub carry: u32,
-    // the source's carry_count: 0x_f_fs that wait behind the cache
+    // the source's carry_count: 0xFFs that wait behind the cache
     pub pending: usize,
     // the source's bytes out
     pub out: usize,

@@ -25,7 +25,7 @@ room-given bits c range e =
     let s = given-split (ltb bits (used_bits c range)) residual_negative (accepted (bits - used_bits c range)) e in
     (ltb-false bits (used_bits c range) s.0, sym (accepted-same s.1))
 
-module _ (c : Cursor) (range : ℕ) (least : 0x10000 ≤ range) (most : range ≤ 0x_ffffff) where
+module _ (c : Cursor) (range : ℕ) (least : 0x10000 ≤ range) (most : range ≤ 0xFFFFFF) where
   -- a cursor some bits on
   abbrev pub ahead : ℕ → Cursor
   ahead n = record { head = c.head; tail = c.tail + n }

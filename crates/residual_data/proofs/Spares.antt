@@ -6,7 +6,7 @@ use Rattle.residual_data.specs.Residual.{used_bits, nonzero, late_from}
 use Rattle.residual_data.proofs.Rooms.{used-more}
 use Rattle.residual_data.proofs.Lates.{late-spends, late-room}
 
-module _ (c : Cursor) (range : ℕ) (least : 0x10000 ≤ range) (most : range ≤ 0x_ffffff) (bits room : ℕ) (fits : used_bits c range + room ≡ bits) where
+module _ (c : Cursor) (range : ℕ) (least : 0x10000 ≤ range) (most : range ≤ 0xFFFFFF) (bits room : ℕ) (fits : used_bits c range + room ≡ bits) where
   -- behind n bits of the room
   pub behind-used : (n : ℕ) → n ≤ room → used_bits (record { head = c.head; tail = c.tail + n }) range + (room - n) ≡ bits
   behind-used n h = omega (arith, used-more c range least most n)

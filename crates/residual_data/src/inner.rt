@@ -15,7 +15,7 @@ use buffer_reader::Cursor;
 
 // The bits that are used up to a cursor, by the coder's range there.
 pub fn used_bits(at: Cursor, range: u32) -> usize
-    requires { (3 ≤ at.head) × (at.head ≤ 65537) × (at.tail ≤ 8 * 65535) × (0x10000 ≤ range) × (range ≤ 0x_ffffff) }
+    requires { (3 ≤ at.head) × (at.head ≤ 65537) × (at.tail ≤ 8 * 65535) × (0x10000 ≤ range) × (range ≤ 0xFFFFFF) }
     ensures { result ≡ used_bits at range }
 {
     at.tail + 8 * (at.head - 3) + 25 - common::inner::floor_log2(range)
@@ -23,7 +23,7 @@ pub fn used_bits(at: Cursor, range: u32) -> usize
 
 // The bits that are left of N, or refusal 12.
 pub fn available(bits: usize, at: Cursor, range: u32) -> Available
-    requires { (3 ≤ at.head) × (at.head ≤ 65537) × (at.tail ≤ 8 * 65535) × (0x10000 ≤ range) × (range ≤ 0x_ffffff) }
+    requires { (3 ≤ at.head) × (at.head ≤ 65537) × (at.tail ≤ 8 * 65535) × (0x10000 ≤ range) × (range ≤ 0xFFFFFF) }
     ensures { available_of result ≡ Residual·available bits at range }
 {
     let used = used_bits(at, range);

@@ -47,7 +47,7 @@ five = plain 4 1 (pos 0 ∷ pos 0 ∷ pos 5 ∷ pos 0 ∷ [])
 
 -- the tail's 0x41 is lastnz and lsb, its 0x08 the lowest bit of the 5
 abbrev pub five_frame : List ℕ
-five_frame = 0x0_f ∷ 0x2_c ∷ replicate 10 0 ++ 0x08 ∷ replicate 6 0 ++ 0x41 ∷ []
+five_frame = 0x0F ∷ 0x2C ∷ replicate 10 0 ++ 0x08 ∷ replicate 6 0 ++ 0x41 ∷ []
 
 -- what is read: pair 1 is escaped, and its level is looked up as that of pair 2, so the lowest bit is left where it is
 abbrev pub five_read : Frame
@@ -60,7 +60,7 @@ five_read =
       lines = filled_to 80 (pos 0 ∷ pos 0 ∷ pos 4 ∷ pos 0 ∷ []);
       residual = [];
       cursor = record { head = 4; tail = 59 };
-      range = 0x0_e0_c7_c;
+      range = 0x0E0C7C;
     }
 
 pub record FiveReadAsFour : Type 0 where
@@ -77,11 +77,11 @@ abbrev pub six : Content
 six = plain 2 0 (pos 0 ∷ pos 6 ∷ [])
 
 abbrev pub six_frame : List ℕ
-six_frame = 0x_fc ∷ replicate 19 0
+six_frame = 0xFC ∷ replicate 19 0
 
 -- seven bits behind the head's own nine, which are nobody's
 abbrev pub six_altered : List ℕ
-six_altered = 0x_fc ∷ 0x7_f ∷ replicate 18 0
+six_altered = 0xFC ∷ 0x7F ∷ replicate 18 0
 
 -- what is read of it: symbol 13, so another line 0, and a sign and residual bits with it
 abbrev pub six_read : Frame
@@ -93,12 +93,12 @@ six_read =
       lines = filled_to 80 (pos 2 ∷ pos 6 ∷ []);
       residual = 0 ∷ 0 ∷ [];
       cursor = record { head = 4; tail = 64 };
-      range = 0x_e0_c400;
+      range = 0xE0C400;
     }
 
 -- the head's own bits of the frame: a whole byte, and the top bit of one more
 pub record NineOwn : Type 0 where
-  pub whole-bytes : own_bytes 0 (symbols_of in_crate flat_set 160 80 six) ≡ 0x_fc ∷ []
+  pub whole-bytes : own_bytes 0 (symbols_of in_crate flat_set 160 80 six) ≡ 0xFC ∷ []
   pub last_byte : own_last 0 (symbols_of in_crate flat_set 160 80 six) ≡ 0
   pub last-bits : own_bits 0 (symbols_of in_crate flat_set 160 80 six) ≡ 1
 

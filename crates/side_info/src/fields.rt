@@ -10,7 +10,7 @@ use crate::Sns;
 use buffer_reader::{BitRead, BitsRead, BufferError, Cursor};
 
 // Why the side information is refused, with the numbers of document 01; a buffer's 9 stands in the step `side`.
-#[derive(Drop)]
+#[derive(Clone, Copy)]
 pub enum SideInfoError {
     OutsideLimits,
     BandwidthIdxOutOfRange(u32),
@@ -20,7 +20,7 @@ pub enum SideInfoError {
     Buffer(BufferError),
 }
 
-#[derive(Drop)]
+#[derive(Clone, Copy)]
 pub(crate) enum NumberRead {
     Number(u32, Cursor),
     Refused(SideInfoError),

@@ -1,4 +1,6 @@
 // The side information: its record, read from the tail of a frame and written there.
+#![tactic(auto)]
+
 pub mod fields;
 pub mod inner;
 mod limits;
@@ -6,7 +8,7 @@ pub mod reader;
 pub mod writer;
 
 // Spectral noise shaping: the two 5-bit indices, then the second stage.
-#[derive(Drop)]
+#[derive(Clone, Copy)]
 pub struct Sns {
     pub lf: u32,
     pub hf: u32,
@@ -19,7 +21,7 @@ pub struct Sns {
     pub idx_b: u32,
 }
 
-#[derive(Drop)]
+#[derive(Clone, Copy)]
 pub struct SideInfo {
     pub bandwidth: u32,
     pub lastnz: u32,

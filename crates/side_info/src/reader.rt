@@ -9,14 +9,14 @@ use crate::{SideInfo, Sns, fields};
 use buffer_reader::{BufferError, Cursor};
 use common::configuration::{Configuration, FrameLines};
 
-#[derive(Drop)]
+#[derive(Clone, Copy)]
 pub enum SideRead {
     Side(SideInfo, Cursor),
     Refused(SideInfoError),
 }
 
 // What is read before the flags.
-#[derive(Drop)]
+#[derive(Clone, Copy)]
 pub(crate) struct Opening {
     pub bandwidth: u32,
     pub lastnz: u32,
@@ -24,7 +24,7 @@ pub(crate) struct Opening {
     pub gain: u32,
 }
 
-#[derive(Drop)]
+#[derive(Clone, Copy)]
 pub(crate) struct Flags {
     pub first: u32,
     pub second: u32,

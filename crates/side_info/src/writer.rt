@@ -10,14 +10,14 @@ use crate::{SideInfo, Sns, fields, limits};
 use buffer_reader::{BufferError, Cursor};
 use common::configuration::{Configuration, FrameLines};
 
-#[derive(Drop)]
+#[derive(Clone, Copy)]
 pub enum SideWriteError {
     OutsideLimits,
     FieldOutside,
     Buffer(BufferError),
 }
 
-#[derive(Drop)]
+#[derive(Clone, Copy)]
 pub enum SideWritten {
     At(Cursor),
     Refused(SideWriteError),
@@ -28,7 +28,7 @@ pub enum SideWritten {
 pub struct Field(pub usize, pub u32);
 
 // The tail behind the fields, or refusal 9 for the first that has no room.
-#[derive(Drop)]
+#[derive(Clone, Copy)]
 pub(crate) enum Room {
     Fits(usize),
     Refused(BufferError),

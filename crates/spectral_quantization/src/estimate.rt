@@ -10,7 +10,7 @@ use common::configuration::{Configuration, FrameLines};
 use contexts::inner;
 
 // All the numbers that the source returns.
-#[derive(Drop)]
+#[derive(Clone, Copy)]
 pub struct BitConsumption {
     pub rate_flag: usize,
     pub mode_flag: bool,
@@ -22,7 +22,7 @@ pub struct BitConsumption {
 }
 
 // Why the estimate refuses, with the numbers of document 01.
-#[derive(Drop)]
+#[derive(Clone, Copy)]
 pub enum EstimateError {
     OutsideLimits,
     WrongLength(usize),
@@ -30,14 +30,14 @@ pub enum EstimateError {
     WrongCount(usize),
 }
 
-#[derive(Drop)]
+#[derive(Clone, Copy)]
 pub enum Estimated {
     Bits(BitConsumption),
     Refused(EstimateError),
 }
 
 // What a frame is estimated by.
-#[derive(Drop)]
+#[derive(Clone, Copy)]
 pub(crate) struct Frame {
     pub ne: usize,
     pub rate: usize,
@@ -46,7 +46,7 @@ pub(crate) struct Frame {
 }
 
 // The running numbers: the sum and the least bits, then the lines kept and their sum, then the context.
-#[derive(Drop)]
+#[derive(Clone, Copy)]
 pub(crate) struct Running {
     pub sum: u32,
     pub least: usize,

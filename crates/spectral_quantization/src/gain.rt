@@ -4,7 +4,7 @@ ghost use Rattle.spectral_quantization.specs.Gain.{gain_of, gain_for, searched, 
 ghost use Rattle.spectral_quantization.specs.Private.{cost_of_all, cost_with};
 
 // The gain index, or refusal 1 or 4.
-#[derive(Drop)]
+#[derive(Clone, Copy)]
 pub enum GainSearch {
     Index(u8),
     OutsideLimits,
@@ -12,7 +12,7 @@ pub enum GainSearch {
 }
 
 // What the energies that were walked cost, and whether all of them lay below the level.
-#[derive(Drop)]
+#[derive(Clone, Copy)]
 struct Cost {
     bits: f32,
     zero: bool,

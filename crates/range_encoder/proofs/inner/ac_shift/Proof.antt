@@ -1,4 +1,4 @@
--- `inner::ac_shift` meets its contract: what is held is sent where it is settled, and otherwise one 0x_ff more waits.
+-- `inner::ac_shift` meets its contract: what is held is sent where it is settled, and otherwise one 0xFF more waits.
 -- Assumes nothing.
 use mathlib.Core.Path.{◌≡◌, refl, sym, ◌∙◌}
 use mathlib.Core.Bool.{true}

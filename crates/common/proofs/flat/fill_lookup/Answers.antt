@@ -1,0 +1,24 @@
+-- `flat::fill_lookup` meets its contract: the entries before place i are the flat ones, and a turn adds the one at i.
+-- Assumes nothing.
+use Prim.Native.Nat.{◌-◌, ◌%◌}
+use native.Mathlib.Omega.{arith}
+use lib.ListN.{length-set}
+use Rattle.common.proofs.Fills.{fill_none, fill_one, fill-all}
+use Rattle.common.proofs.flat.fill_lookup.Goals as goal
+
+pub loop-i-init : goal.loop-i-init
+loop-i-init c = (omega arith, omega arith, fill_none (λ k. k % 64) c.args.lookup.now)
+
+pub loop-i-smaller : goal.loop-i-smaller
+loop-i-smaller c = simp length-set (omega arith)
+
+pub loop-i-preserved : goal.loop-i-preserved
+loop-i-preserved c =
+    (
+  simp length-set (omega arith),
+  simp length-set (omega arith),
+  fill_one (λ k. k % 64) _ _ c.loop-i-test.true c.loop-i.invariant.2,
+)
+
+pub returns : goal.returns
+returns c = fill-all (λ k. k % 64) _ c.args.lookup.now _ (omega arith) c.loop-i.invariant.1 c.loop-i.invariant.2
