@@ -11,19 +11,19 @@ use crate::Refusal;
 use buffer_reader::{BitRead, BufferError, Cursor};
 use range_decoder::{CodecError, DecoderState, Started, SymbolRead};
 
-#[derive(Drop)]
+#[derive(Clone, Copy)]
 pub enum StartMet {
     At(DecoderState, Cursor),
     Refused(Refusal),
 }
 
-#[derive(Drop)]
+#[derive(Clone, Copy)]
 pub enum SymbolMet {
     Symbol(usize, DecoderState, Cursor),
     Refused(Refusal),
 }
 
-#[derive(Drop)]
+#[derive(Clone, Copy)]
 pub enum BitMet {
     Bit(u32, Cursor),
     Refused(Refusal),

@@ -1,8 +1,10 @@
 // Readings that carry the coder's state. What they refuse sits inside the step that met it.
+#![tactic(auto)]
+
 pub mod inner;
 
 // What a step can meet: refusals 9, 10 and 11, each with its numbers.
-#[derive(Drop)]
+#[derive(Clone, Copy)]
 pub enum Refusal {
     NoTailRoom(usize, usize),
     PastEnd(usize),
@@ -10,7 +12,7 @@ pub enum Refusal {
 }
 
 // The steps of a frame's reading: filter, filter and index, or pair and level.
-#[derive(Drop)]
+#[derive(Clone, Copy)]
 pub enum Met {
     Side(Refusal),
     Start(Refusal),

@@ -10,7 +10,7 @@ use range_decoder::DecoderState;
 use range_decoder::lent::SymbolAt;
 
 // Where the reader stands behind a read, and what the read gave.
-#[derive(Drop)]
+#[derive(Clone, Copy)]
 pub struct Reached {
     pub at: Cursor,
     pub taken: Taken,
@@ -27,7 +27,7 @@ pub fn read_by(frame: &[u8], at: Cursor, read: Read) -> Reached
 }
 
 // The state behind the step, and what the step gave.
-#[derive(Drop)]
+#[derive(Clone, Copy)]
 pub struct Gone {
     pub state: DecoderState,
     pub given: SymbolAt,

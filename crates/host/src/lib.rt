@@ -20,8 +20,7 @@ mod told;
 use common::configuration::{Configuration, FrameLines};
 
 // Reads one frame: 0 where it is accepted, else the refusal's number. What else there is to tell is laid over the lent slices.
-#[unsafe(no_mangle)]
-pub extern "C" fn lc3_read_frame(
+pub fn lc3_read_frame(
     fs_ind: usize,
     duration: usize,
     reading: usize,
@@ -63,8 +62,7 @@ pub extern "C" fn lc3_read_frame(
 }
 
 // Writes one frame of the record that the slices give: 0 where it is accepted, else the refusal's number, and its place is laid over numbers.
-#[unsafe(no_mangle)]
-pub extern "C" fn lc3_write_frame(
+pub fn lc3_write_frame(
     fs_ind: usize,
     duration: usize,
     reading: usize,
@@ -112,8 +110,7 @@ pub extern "C" fn lc3_write_frame(
 }
 
 // The same as a field at an offset: 0 where it is accepted, and where the next field begins is laid over numbers; else number and place.
-#[unsafe(no_mangle)]
-pub extern "C" fn lc3_write_field(
+pub fn lc3_write_field(
     fs_ind: usize,
     duration: usize,
     reading: usize,
@@ -165,8 +162,7 @@ pub extern "C" fn lc3_write_field(
 }
 
 // Whether a table set passes: 1 if it does, else 0.
-#[unsafe(no_mangle)]
-pub extern "C" fn lc3_tables_pass(
+pub fn lc3_tables_pass(
     lookup: &[u8],
     frequencies: &[u16],
     bits: &[u16],
@@ -179,8 +175,7 @@ pub extern "C" fn lc3_tables_pass(
 }
 
 // Fills the flat set into the lent slices, each as far as it is long.
-#[unsafe(no_mangle)]
-pub extern "C" fn lc3_flat_set(
+pub fn lc3_flat_set(
     lookup: &mut [u8],
     frequencies: &mut [u16],
     bits: &mut [u16],
@@ -197,8 +192,7 @@ pub extern "C" fn lc3_flat_set(
 }
 
 // Reads frames of one length that stand one behind the other, each into the same lines: how many are accepted.
-#[unsafe(no_mangle)]
-pub extern "C" fn lc3_read_frames(
+pub fn lc3_read_frames(
     fs_ind: usize,
     duration: usize,
     reading: usize,

@@ -5,7 +5,7 @@ ghost use Rattle.range_encoder.specs.Private.{Fits, ending_of};
 
 use crate::EncoderState;
 
-#[derive(Drop)]
+#[derive(Clone, Copy)]
 pub(crate) struct Closing {
     pub bits: usize,
     pub value: u32,

@@ -1,10 +1,12 @@
 // The range encoder, its finish in both readings, and the coder's theory. Its calls stand in `inner`: the frame writer makes
 // them, and nothing outside this repository.
+#![tactic(auto)]
+
 mod ending;
 pub mod inner;
 
 // The state of the source.
-#[derive(Drop)]
+#[derive(Clone, Copy)]
 pub struct EncoderState {
     pub low: u32,
     pub range: u32,
@@ -19,7 +21,7 @@ pub struct EncoderState {
 }
 
 // Where the own bits of the head end: so many whole bytes, and so many top bits of the next.
-#[derive(Drop)]
+#[derive(Clone, Copy)]
 pub struct Finished {
     pub out: usize,
     pub bits: usize,

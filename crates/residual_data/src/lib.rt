@@ -1,16 +1,18 @@
 // The residual stage of a frame's reading: the bits that are left, the residual list, in least-bit mode what comes late; and what is
 // summed over the lines behind it.
+#![tactic(auto)]
+
 pub mod inner;
 
 // How many bits are left of the frame, or that more than all are used.
-#[derive(Drop)]
+#[derive(Clone, Copy)]
 pub enum Available {
     Room(usize),
     Negative,
 }
 
 // A line behind its late bits, the tail behind them, and the room that is left.
-#[derive(Drop)]
+#[derive(Clone, Copy)]
 pub struct LateLine {
     pub line: i32,
     pub tail: usize,

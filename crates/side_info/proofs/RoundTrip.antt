@@ -13,10 +13,9 @@ use lib.ListN.{length}
 use Rattle.common.specs.Reply.{Answer, accepted, side, within, and_then}
 use Rattle.common.specs.Configuration.{frame_lines}
 use Rattle.common.specs.declared.configuration.Configuration.{Configuration}
-use Rattle.common.proofs.Bools.{or-first-fails}
 use Rattle.common.proofs.Configurations.{frame-ranges}
 use Rattle.buffer_reader.specs.Tail.{tail_bit, field}
-use Rattle.buffer_reader.specs.Reads.{listed, bit_beyond, bytes_wanted}
+use Rattle.buffer_reader.specs.Reads.{listed, bytes_wanted}
 use Rattle.buffer_reader.specs.Steps.{Reading, next, if_present, as_number}
 use Rattle.buffer_reader.specs.declared.Cursor.{Cursor}
 use Rattle.buffer_reader.proofs.Tails.{field-one, field-none, bit-lt}

@@ -24,7 +24,7 @@ pub enum SideWritten {
 }
 
 // A field's width, 0 where it is absent, and the number in it.
-#[derive(Drop)]
+#[derive(Clone, Copy)]
 pub struct Field(pub usize, pub u32);
 
 // The tail behind the fields, or refusal 9 for the first that has no room.

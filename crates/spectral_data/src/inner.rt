@@ -17,21 +17,21 @@ use range_decoder::DecoderState;
 use range_encoder::EncoderState;
 
 // What the stage refuses: 9 to 11, in the step that met them, and 19, which stands in none.
-#[derive(Drop)]
+#[derive(Clone, Copy)]
 pub enum PairsError {
     Step(Met),
     FourteenEscapes(usize),
 }
 
 // The two tail bits behind an escape.
-#[derive(Drop)]
+#[derive(Clone, Copy)]
 pub(crate) enum LowBits {
     Bits(u32, u32, Cursor),
     Refused(PairsError),
 }
 
 // One level of a pair: its last symbol, or an escape with its tail bits.
-#[derive(Drop)]
+#[derive(Clone, Copy)]
 pub(crate) enum Turn {
     Last(usize, DecoderState, Cursor),
     Escape(u32, u32, DecoderState, Cursor),
@@ -39,7 +39,7 @@ pub(crate) enum Turn {
 }
 
 // A pair before its signs: the low bits of both lines, one of each for a level.
-#[derive(Drop)]
+#[derive(Clone, Copy)]
 pub(crate) struct Levels {
     pub escapes: usize,
     pub last: usize,
@@ -47,19 +47,19 @@ pub(crate) struct Levels {
     pub low_second: u32,
 }
 
-#[derive(Drop)]
+#[derive(Clone, Copy)]
 pub(crate) enum LevelsRead {
     Read(Levels, DecoderState, Cursor),
     Refused(PairsError),
 }
 
-#[derive(Drop)]
+#[derive(Clone, Copy)]
 pub(crate) enum LineRead {
     Line(i32, Cursor),
     Refused(PairsError),
 }
 
-#[derive(Drop)]
+#[derive(Clone, Copy)]
 pub(crate) struct Pair {
     pub escapes: usize,
     pub last: usize,
@@ -67,13 +67,13 @@ pub(crate) struct Pair {
     pub second: i32,
 }
 
-#[derive(Drop)]
+#[derive(Clone, Copy)]
 pub(crate) enum PairRead {
     Read(Pair, DecoderState, Cursor),
     Refused(PairsError),
 }
 
-#[derive(Drop)]
+#[derive(Clone, Copy)]
 pub enum PairsRead {
     At(DecoderState, Cursor),
     Refused(PairsError),

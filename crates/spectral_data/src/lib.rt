@@ -1,4 +1,6 @@
 // The spectral lines of a frame, pair by pair.
+#![tactic(auto)]
+
 pub mod inner;
 mod put;
 mod send;

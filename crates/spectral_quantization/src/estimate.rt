@@ -67,7 +67,7 @@ pub fn compute_bit_consumption(
     target: usize,
     lines: &[i16],
 ) -> Estimated
-    ensures { estimated_of result ≡ estimate configuration bytes (record { lookup = lookup.entry.now; frequencies = frequencies.now; bits = bits.now; orders = orders.now; coefficients = coefficients.now }) target lines.now }
+    ensures { estimated_of result ≡ estimate configuration bytes (record { lookup = lookup.now; frequencies = frequencies.now; bits = bits.now; orders = orders.now; coefficients = coefficients.now }) target lines.now }
 {
     if 65535 < target {
         return Estimated::Refused(EstimateError::OutsideLimits);

@@ -14,13 +14,13 @@ use range_decoder::DecoderState;
 use range_encoder::EncoderState;
 
 // The two orders, with the state and the cursor behind them.
-#[derive(Drop)]
+#[derive(Clone, Copy)]
 pub enum TnsRead {
     Orders(usize, usize, DecoderState, Cursor),
     Refused(Met),
 }
 
-#[derive(Drop)]
+#[derive(Clone, Copy)]
 enum FilterRead {
     Order(usize, DecoderState, Cursor),
     Refused(Met),

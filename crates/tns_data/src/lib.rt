@@ -1,3 +1,5 @@
 // The TNS data of a frame: two orders and sixteen indices.
+#![tactic(auto)]
+
 pub mod inner;
 mod send;

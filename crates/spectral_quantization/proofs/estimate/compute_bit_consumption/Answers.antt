@@ -17,10 +17,7 @@ use Rattle.spectral_quantization.specs.Estimate.{consumption}
 use Rattle.spectral_quantization.proofs.Refusals.{estimate-target, estimate-frame, estimate-tables, estimate-count, estimate-on}
 use mathlib.Core.Bool.{not}
 use Rattle.spectral_quantization.proofs.estimate.compute_bit_consumption.Goals as goal
-use Rattle.spectral_quantization.proofs.estimate.compute_bit_consumption.Goals.{After-frame_lines, Else-not-tables_pass, In-Encoded-2, Start}
-
-abbrev start : After-frame_lines → tie.Start
-start c = (goal.at.After-frame_lines c).Start
+use Rattle.spectral_quantization.proofs.estimate.compute_bit_consumption.Goals.{After-tables_pass, Else-not-tables_pass, Start}
 
 -- the set that was lent
 set_at : (c : Start) → Tables
@@ -35,11 +32,11 @@ set_at c =
     }
 
 -- behind 1 and 2: the frame's lines are known
-known : (c : In-Encoded-2) → frame_lines (start (goal.at.In-Encoded-2 c).After-frame_lines).args.configuration (start (goal.at.In-Encoded-2 c).After-frame_lines).args.bytes ≡ accepted c.in-Encoded.ne
+known : (c : After-tables_pass) → frame_lines c.args.configuration c.args.bytes ≡ accepted c.in-Encoded.ne
 known c = sym c.frame_lines.ensures ∙ ap frame_lines_of c.in-Encoded.is
 
 -- behind 3
-held : (c : Else-not-tables_pass) → tables_pass (set_at (start (goal.at.Else-not-tables_pass c).After-frame_lines)) ≡ true
+held : (c : Else-not-tables_pass) → tables_pass (set_at (goal.at.Else-not-tables_pass c).Start) ≡ true
 unfolding set_at
 held c = confirmed c.tables_pass.ensures (ap not c.if-not-tables_pass.false)
 
@@ -50,27 +47,27 @@ returns-then-target-gt65535 c = sym (estimate-target c.args.configuration c.args
 pub returns-then-not-tables_pass : goal.returns-then-not-tables_pass
 unfolding set_at
 returns-then-not-tables_pass c =
-    let s = start (goal.at.returns-then-not-tables_pass c).After-frame_lines in
-    sym (estimate-tables s.args.configuration s.args.bytes (set_at s) s.args.target s.args.lines.now c.if-target-gt65535.false c.in-Encoded.ne (known (goal.at.returns-then-not-tables_pass c).In-Encoded-2) (refuted c.tables_pass.ensures (ap not c.if-not-tables_pass.true)))
+    let s = (goal.at.returns-then-not-tables_pass c).Start in
+    sym (estimate-tables s.args.configuration s.args.bytes (set_at s) s.args.target s.args.lines.now c.if-target-gt65535.false c.in-Encoded.ne (known (goal.at.returns-then-not-tables_pass c).After-tables_pass) (refuted c.tables_pass.ensures (ap not c.if-not-tables_pass.true)))
 
 pub returns-then-count-ne : goal.returns-then-count-ne
 unfolding set_at
 returns-then-count-ne c =
-    let s = start (goal.at.returns-then-count-ne c).After-frame_lines in
-    sym (estimate-count s.args.configuration s.args.bytes (set_at s) s.args.target s.args.lines.now c.if-target-gt65535.false c.in-Encoded.ne (known (goal.at.returns-then-count-ne c).In-Encoded-2) (held (goal.at.returns-then-count-ne c).Else-not-tables_pass) c.if-count-ne.true)
+    let s = (goal.at.returns-then-count-ne c).Start in
+    sym (estimate-count s.args.configuration s.args.bytes (set_at s) s.args.target s.args.lines.now c.if-target-gt65535.false c.in-Encoded.ne (known (goal.at.returns-then-count-ne c).After-tables_pass) (held (goal.at.returns-then-count-ne c).Else-not-tables_pass) c.if-count-ne.true)
 
 pub frame_of-frame-requires : goal.frame_of-frame-requires
 frame_of-frame-requires c =
-    let a = (start (goal.at.frame_of-frame-requires c).After-frame_lines).args in
-    let (low, _, _, _, short) = frame-ranges a.configuration a.bytes (known (goal.at.frame_of-frame-requires c).In-Encoded-2) in
+    let a = c.args in
+    let (low, _, _, _, short) = frame-ranges a.configuration a.bytes (known (goal.at.frame_of-frame-requires c).After-tables_pass) in
     (low, short)
 
 pub consumption-requires : goal.consumption-requires
 unfolding set_at
 consumption-requires c =
-    let s = start (goal.at.consumption-requires c).After-frame_lines in
+    let s = (goal.at.consumption-requires c).Start in
     let h = held (goal.at.consumption-requires c).Else-not-tables_pass in
-    let (_, least, most, _, _) = frame-ranges s.args.configuration s.args.bytes (known (goal.at.consumption-requires c).In-Encoded-2) in (
+    let (_, least, most, _, _) = frame-ranges s.args.configuration s.args.bytes (known (goal.at.consumption-requires c).After-tables_pass) in (
       record { passes = lookup-passed (set_at s) h; size = bits-passed (set_at s) h },
       rw (ap (λ (f : Frame). f.rate) c.frame_of-frame.ensures) (rate-most (8 * s.args.bytes) s.args.configuration.fs_ind),
       omega (arith, c.if-count-ne.false, least),
@@ -80,19 +77,19 @@ consumption-requires c =
 pub returns-in-OutsideLimits : goal.returns-in-OutsideLimits
 unfolding set_at
 returns-in-OutsideLimits c =
-    let s = start (goal.at.returns-in-OutsideLimits c).After-frame_lines in
+    let s = (goal.at.returns-in-OutsideLimits c).Start in
     sym (estimate-frame s.args.configuration s.args.bytes (set_at s) s.args.target s.args.lines.now c.if-target-gt65535.false (sym c.frame_lines.ensures ∙ ap frame_lines_of c.in-OutsideLimits.is))
 
 pub returns-in-WrongLength : goal.returns-in-WrongLength
 unfolding set_at
 returns-in-WrongLength c =
-    let s = start (goal.at.returns-in-WrongLength c).After-frame_lines in
+    let s = (goal.at.returns-in-WrongLength c).Start in
     sym (estimate-frame s.args.configuration s.args.bytes (set_at s) s.args.target s.args.lines.now c.if-target-gt65535.false (sym c.frame_lines.ensures ∙ ap frame_lines_of c.in-WrongLength.is))
 
 pub returns-else-count-ne : goal.returns-else-count-ne
 unfolding set_at
 returns-else-count-ne c =
-    let s = start (goal.at.returns-else-count-ne c).After-frame_lines in
+    let s = (goal.at.returns-else-count-ne c).Start in
     let a = s.args in
-    ap accepted (c.consumption.ensures ∙ ap (λ ((goal.at.returns-else-count-ne c).After-frame_lines : Frame). consumption (magnitudes a.lines.now) a.lookup.now a.bits.now c.ne c.rate c.mode c.target) c.frame_of-frame.ensures) ∙
-    sym (estimate-on a.configuration a.bytes (set_at s) a.target a.lines.now c.if-target-gt65535.false c.in-Encoded.ne (known (goal.at.returns-else-count-ne c).In-Encoded-2) (held (goal.at.returns-else-count-ne c).Else-not-tables_pass) c.if-count-ne.false)
+    ap accepted (c.consumption.ensures ∙ ap (λ (f : Frame). consumption (magnitudes a.lines.now) a.lookup.now a.bits.now f.ne f.rate f.mode f.target) c.frame_of-frame.ensures) ∙
+    sym (estimate-on a.configuration a.bytes (set_at s) a.target a.lines.now c.if-target-gt65535.false c.in-Encoded.ne (known (goal.at.returns-else-count-ne c).After-tables_pass) (held (goal.at.returns-else-count-ne c).Else-not-tables_pass) c.if-count-ne.false)

@@ -1,6 +1,6 @@
 -- `estimate::escapes_cost` meets its contract: the cost so far is that of the levels passed, each at most 65,535 and 4,096.
 -- Assumes nothing.
-use Prim.Native.Nat.{◌+◌, ◌-◌, ◌≤◌}
+use Prim.Native.Nat.{◌+◌, ◌≤◌}
 use mathlib.Core.Path.{◌≡◌, refl, sym, ◌∙◌}
 use native.Mathlib.Omega.{arith}
 use Rattle.spectral_quantization.proofs.Costs.{escapes-none, escapes-more}
@@ -17,9 +17,6 @@ symbol_cost-requires c =
     let p = c.requires in
     (p.0, p.1, omega arith)
 
-pub tail_cost-requires : goal.tail_cost-requires
-tail_cost-requires c = tt
-
 -- what the two calls ensure, and how far the cost is
 sizes : (c : After-tail_cost) → (c.symbol_cost.result + c.tail_cost.result ≤ 69631) × (c.loop-level.cost ≤ 974834)
 sizes c = (omega (arith, c.symbol_cost.ensures.most, c.tail_cost.ensures.most), omega (arith, c.loop-level.invariant.1, c.loop-level.invariant.0, c.requires.2))
@@ -29,9 +26,6 @@ overflow_add-cost c = omega (arith, (sizes c).0, (sizes c).1)
 
 pub overflow_add-cost-in-loop-level : goal.overflow_add-cost-in-loop-level
 overflow_add-cost-in-loop-level c = omega (arith, (sizes c).0, (sizes c).1)
-
-pub loop-level-smaller : goal.loop-level-smaller
-loop-level-smaller c = omega (arith, c.loop-level-test.true)
 
 pub loop-level-preserved : goal.loop-level-preserved
 loop-level-preserved c =

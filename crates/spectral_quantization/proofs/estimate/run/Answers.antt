@@ -1,6 +1,6 @@
 -- `estimate::run` meets its contract: the running numbers are those behind the first `p` pairs, and as far as these bring them.
 -- Assumes nothing.
-use Prim.Native.Nat.{◌+◌, ◌-◌, ◌*◌, ◌<◌}
+use Prim.Native.Nat.{◌+◌, ◌*◌, ◌<◌}
 use mathlib.Core.Path.{◌≡◌}
 use native.Mathlib.Omega.{arith}
 use lib.ListN.{length}
@@ -38,9 +38,6 @@ on_pair-s-requires c = (c.requires.0, c.requires.1, (there (goal.at.on_pair-s-re
 
 pub overflow_add-p-in-loop-p : goal.overflow_add-p-in-loop-p
 overflow_add-p-in-loop-p c = record { fits = omega (arith, (there (goal.at.overflow_add-p-in-loop-p c).In-loop-p).1) }
-
-pub loop-p-smaller : goal.loop-p-smaller
-loop-p-smaller c = omega (arith, c.loop-p-test.true)
 
 pub loop-p-preserved : goal.loop-p-preserved
 loop-p-preserved c =

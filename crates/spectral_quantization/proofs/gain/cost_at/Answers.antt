@@ -14,12 +14,6 @@ pub loop-left-init : goal.loop-left-init
 unfolding constant round of_bits
 loop-left-init c = (omega arith, walk_start c.args.level c.args.energies.now)
 
-pub offset_bounds-energies-left : goal.offset_bounds-energies-left
-offset_bounds-energies-left c = omega (arith, c.well-formed.0.1)
-
-pub with_energy-cost-requires : goal.with_energy-cost-requires
-with_energy-cost-requires c = tt
-
 pub loop-left-preserved : goal.loop-left-preserved
 loop-left-preserved c =
     let a = c.args in (

@@ -1,7 +1,7 @@
 -- `gain::cost_at` meets its contract: the invariant says that the cost so far is that of the energies from `left` on, and the
 -- measure is what is left. Assumes nothing.
 use mathlib.Core.Path.{◌≡◌}
-use Prim.Native.Nat.{◌-◌, ◌≤◌}
+use Prim.Native.Nat.{◌≤◌}
 use lib.ListN.{length, drop}
 use Rattle.spectral_quantization.specs.Private.{cost_of_all}
 use Rattle.spectral_quantization.proofs.gain.cost_at.Given as goal

@@ -11,17 +11,14 @@ use Rattle.spectral_quantization.specs.Gain.{searched}
 use Rattle.spectral_quantization.proofs.Answers.{gain-outside, gain-long, gain-found}
 use Rattle.spectral_quantization.proofs.Turns.{searched-range}
 use Rattle.spectral_quantization.proofs.gain.gain_index.Goals as goal
-use Rattle.spectral_quantization.proofs.gain.gain_index.Goals.{After-search, Start}
-
-abbrev start : After-search → tie.Start
-start c = (goal.at.After-search c).Start
+use Rattle.spectral_quantization.proofs.gain.gain_index.Goals.{After-search}
 
 -- the offset comes back from its bits, so what was found is the definition's index
-found : (c : After-search) → c.search.result ≡ searched (start c).args.energies.now (of_int binary32 (start c).args.offset) (start c).args.target
+found : (c : After-search) → c.search.result ≡ searched c.args.energies.now (of_int binary32 c.args.offset) c.args.target
 found c =
-    let s = start c in
+    let a = c.args in
     c.search.ensures
-    ∙ ap (λ (z : ℤ). searched s.args.energies.now (of_int binary32 z) s.args.target) (to_z-of_z w16 s.args.offset s.fits.offset)
+    ∙ ap (λ (z : ℤ). searched a.energies.now (of_int binary32 z) a.target) (to_z-of_z w16 a.offset c.ranges.offset)
 
 pub returns-then-target-gt65535 : goal.returns-then-target-gt65535
 returns-then-target-gt65535 c =
@@ -35,11 +32,11 @@ returns-then-energies-gt100 c =
 
 pub overflow_cast-result : goal.overflow_cast-result
 overflow_cast-result c =
-    let a = (start c).args in
-    omega (arith, found c, searched-range a.energies.now (of_int binary32 a.offset) a.target)
+    let a = c.args in
+    omega (arith, found (goal.at.overflow_cast-result c).After-search, searched-range a.energies.now (of_int binary32 a.offset) a.target)
 
 pub returns : goal.returns
 returns c =
-    let a = (start c).args in
-    ap accepted (found c)
+    let a = c.args in
+    ap accepted (found (goal.at.returns c).After-search)
     ∙ sym (gain-found a.energies.now a.offset a.target c.if-target-gt65535.false c.if-energies-gt100.false)

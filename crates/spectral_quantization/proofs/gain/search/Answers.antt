@@ -2,7 +2,6 @@
 -- the whole search finds, and that the index has room for the step (`Turns.antt`). The measure is how many turns are left.
 -- Assumes nothing.
 use mathlib.Core.Path.{refl, sym, ◌∙◌}
-use Prim.Native.Nat.{◌-◌}
 use native.Mathlib.Omega.{arith}
 use Rattle.spectral_quantization.proofs.Turns.{turns_next, turns-end, room-kept}
 use Rattle.spectral_quantization.proofs.gain.search.Goals as goal
@@ -12,8 +11,7 @@ loop-init c = (omega arith, refl)
 
 pub loop-preserved : goal.loop-preserved
 loop-preserved c =
-    let a = c.args in
-    (
+    let a = c.args in (
       room-kept a.energies.now a.offset a.target c.loop.counter c.loop.fac c.loop.index c.turn-index.result c.turn-index.ensures c.loop.invariant.0,
       turns_next a.energies.now a.offset a.target c.loop.counter c.loop.fac c.loop.index c.turn-index.result c.turn-index.ensures c.loop-test.true
           ∙ c.loop.invariant.1,

@@ -14,7 +14,7 @@ use Rattle.spectral_quantization.proofs.quantiser.cut.Goals.{Start}
 
 -- what owning an f32 tells: the format holds it
 held-by-format : (c : Start) → T (fits binary32 c.args.v)
-held-by-format c = subst T (sym c.well-formed.0.1) tt
+held-by-format c = subst T (sym c.well_formed.0.1) tt
 
 pub returns-then-v : goal.returns-then-v
 returns-then-v c = nan-cut c.args.v c.if-v.true
@@ -28,13 +28,10 @@ overflow_add-bits c = omega (arith, digits-masked (to_bits binary32 c.args.v))
 pub whole-size-requires : goal.whole-size-requires
 whole-size-requires c = omega (arith, digits-masked (to_bits binary32 c.args.v))
 
-pub signed-requires : goal.signed-requires
-signed-requires c = tt
-
 pub returns : goal.returns
 returns c =
     let v = c.args.v in
-    to_z-of_z w16 c.signed.result (record { sfits = c.signed.type-inv })
+    to_z-of_z w16 c.signed.result (record { sfits = c.signed.type_inv })
     ∙ c.signed.ensures
     ∙ ap (held (leb (2 ^ 31) (to_bits binary32 v))) c.whole-size.ensures
     ∙ cut-by-bits v (held-by-format (goal.at.returns c).Start) (no_nan v c.if-v.false)

@@ -1,25 +1,27 @@
 -- `quantiser::quantise` meets its contract: on either side of zero it cuts the sum that the definition has there.
 -- Assumes nothing.
--- on either side of zero
-use mathlib.Core.Path.{ap, ◌∙◌}
+use mathlib.Core.Path.{◌≡◌, refl, ap, ◌∙◌}
 use mathlib.Core.Bool.{true, false}
-use lib.Ieee.{round, of_bits}
+use lib.Ieee.{Float, round, of_bits, le}
 use mir.Syntax.{w16}
 use mir.ValLaws.{to_z-of_z}
-use Rattle.spectral_quantization.specs.Single.{constant}
-use Rattle.spectral_quantization.specs.Quantiser.{cut}
+use Rattle.spectral_quantization.specs.Single.{◌+ᶠ◌, ◌-ᶠ◌, ◌/ᶠ◌, constant}
+use Rattle.spectral_quantization.specs.Quantiser.{moved, cut}
 use Rattle.spectral_quantization.proofs.quantiser.quantise.Goals as goal
 
+-- on either side of zero
 module _ (x gain : Float) where
   up : le (constant 0 1) x ≡ true → x /ᶠ gain +ᶠ constant 375 1000 ≡ moved x gain
   up h = rw h refl
+
   down : le (constant 0 1) x ≡ false → x /ᶠ gain -ᶠ constant 375 1000 ≡ moved x gain
   down h = rw h refl
+
 pub returns-then-x : goal.returns-then-x
 unfolding constant round of_bits
 returns-then-x c =
     let a = c.args in
-    to_z-of_z w16 c.cut.result (record { sfits = c.cut.type-inv })
+    to_z-of_z w16 c.cut.result (record { sfits = c.cut.type_inv })
     ∙ c.cut.ensures
     ∙ ap cut (up a.x a.gain c.if-x.true)
 
@@ -27,6 +29,6 @@ pub returns-else-x : goal.returns-else-x
 unfolding constant round of_bits
 returns-else-x c =
     let a = c.args in
-    to_z-of_z w16 c.cut-else-x.result (record { sfits = c.cut-else-x.type-inv })
+    to_z-of_z w16 c.cut-else-x.result (record { sfits = c.cut-else-x.type_inv })
     ∙ c.cut-else-x.ensures
     ∙ ap cut (down a.x a.gain c.if-x.false)

@@ -1,0 +1,11 @@
+-- `inner::lay_bits` meets its contract: in front stand the bits that are laid, and behind them the list is as it was.
+-- Assumes nothing.
+use Rattle.std.proofs.Common.{◌≡◌, ◌-◌, ◌≤◌, ◌++◌, length, drop}
+use Rattle.residual_data.specs.Residual.{bits_from}
+use Rattle.residual_data.proofs.inner.lay_bits.Given as goal
+
+abbrev pub invariant-loop-i : goal.invariant-loop-i
+invariant-loop-i l = (l.i ≤ l.n) × (length l.bits ≡ length l.initial.bits) × (l.bits ≡ bits_from l.buf l.tail l.i ++ drop l.i l.initial.bits)
+
+abbrev pub decreases-loop-i : goal.decreases-loop-i
+decreases-loop-i l = l.n - l.i

@@ -1,0 +1,11 @@
+-- `inner::nonzero_written` meets its contract: one line more counts what the definition says of it.
+-- Assumes nothing.
+use Rattle.std.proofs.Common.{◌≡◌, ◌-◌, ◌≤◌, length, take}
+use Rattle.residual_data.specs.Residual.{nonzero}
+use Rattle.residual_data.proofs.inner.nonzero_written.Given as goal
+
+abbrev pub invariant-loop-k : goal.invariant-loop-k
+invariant-loop-k l = (l.k ≤ length l.lines) × (l.n ≤ l.k) × (l.n ≡ nonzero (take l.k l.lines))
+
+abbrev pub decreases-loop-k : goal.decreases-loop-k
+decreases-loop-k l = length l.lines - l.k
