@@ -22,7 +22,7 @@ use spectral_data::inner::{PairsError, PairsRead};
 use tns_data::inner::TnsRead;
 
 // What is known of a frame before its residual bits, beside the arrays.
-#[derive(Drop)]
+#[derive(Clone, Copy)]
 pub(crate) struct Known {
     pub side: SideInfo,
     pub first_order: usize,
@@ -30,7 +30,7 @@ pub(crate) struct Known {
     pub range: u32,
 }
 
-#[derive(Drop)]
+#[derive(Clone, Copy)]
 pub(crate) enum DataRead {
     Read(Known, Cursor),
     Refused(FrameError),

@@ -1,4 +1,6 @@
 // The whole frame, read: one call for a recording node.
+#![tactic(auto)]
+
 ghost use Rattle.std.specs.Prelude.{◌≡◌, length};
 ghost use Rattle.frame_reader.specs.Frame.{read_frame};
 ghost use Rattle.frame_reader.specs.Returned.{outcome_of, told, indices_of, residual_of, lines_behind};
@@ -11,7 +13,7 @@ use common::configuration::{Configuration, FrameLines};
 use side_info::SideInfo;
 
 // Why a frame is refused, with the numbers of document 01: the reader's own checks, the step that met 9 to 11, and 19.
-#[derive(Drop)]
+#[derive(Clone, Copy)]
 pub enum FrameError {
     OutsideLimits,
     WrongLength(usize),
@@ -27,7 +29,7 @@ pub enum FrameError {
 }
 
 // What an accepted frame has beside its lists and lines.
-#[derive(Drop)]
+#[derive(Clone, Copy)]
 pub struct Numbers {
     pub side: SideInfo,
     pub first_order: usize,
@@ -39,7 +41,7 @@ pub struct Numbers {
     pub range: u32,
 }
 
-#[derive(Drop)]
+#[derive(Clone, Copy)]
 pub enum Outcome {
     Read(Numbers),
     Refused(FrameError),

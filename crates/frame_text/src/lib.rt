@@ -1,4 +1,6 @@
 // The text that is printed of a frame, accepted or refused, laid into a lent buffer.
+#![tactic(auto)]
+
 ghost use Rattle.std.specs.Prelude.{◌≡◌, length};
 ghost use Rattle.std.proofs.lemmas.List.Edits.{sets};
 ghost use Rattle.frame_reader.specs.Frame.{read_frame};

@@ -1,4 +1,6 @@
 // The whole frame, written: one call for a sending node.
+#![tactic(auto)]
+
 ghost use Rattle.std.specs.Prelude.{◌≡◌, length};
 ghost use Rattle.frame_writer.specs.Frame.{write_frame};
 ghost use Rattle.frame_writer.specs.Returned.{written_of, told, frame_behind};
@@ -9,7 +11,7 @@ use common::configuration::{Configuration, FrameLines};
 use side_info::SideInfo;
 
 // Why a frame is not written, with the numbers of document 01.
-#[derive(Drop)]
+#[derive(Clone, Copy)]
 pub enum WriteError {
     OutsideLimits,
     WrongLength(usize),
@@ -21,7 +23,7 @@ pub enum WriteError {
     NoRoom,
 }
 
-#[derive(Drop)]
+#[derive(Clone, Copy)]
 pub enum FrameWritten {
     Written,
     Refused(WriteError),

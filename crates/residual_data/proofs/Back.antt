@@ -154,17 +154,20 @@ module _ (f : List ℕ) (lines : List ℤ) (escaped : ℕ → Bool) where
           second-taken : take room (late_pairs lines p (suc n)) ≡ a ++ take left b
           second-taken = front ∙ ap (λ (r : List Bit). a ++ r) (take-append-le left b later (omega arith))
 
-          pub comes-second : late_line f (evened x) tail room ≡ held x (tail + length a) left → late_line f (evened y) (tail + length a) left ≡ held (evened y) (tail + length a + left) 0 → Comes p (suc n) tail room
+          -- the lines behind the one place, as they come back
+          lines-second : x ∷ evened y ∷ rest ≡ back_lines lines (2 * p + 1) p (suc n)
           unfolding back_lines
+          lines-second =
+              rw (lt-ltb (2 * p) (2 * p + 1) (omega arith), le-ltb (2 * p + 1) (2 * p + 1) (omega arith), e, back_early lines (2 * p + 1) (p + 1) n (omega arith)) refl
+
+          pub comes-second : late_line f (evened x) tail room ≡ held x (tail + length a) left → late_line f (evened y) (tail + length a) left ≡ held (evened y) (tail + length a + left) 0 → Comes p (suc n) tail room
           comes-second one cut =
               let size : length (take room (late_pairs lines p (suc n))) ≡ room = omega (arith, ap length second-taken, length-append a (take left b), length-take-le left b (omega arith)) in
               let at : cut_line lines p (suc n) room ≡ 2 * p + 1 = cut-second lines p n room e h l in
               let end : tail + length a + left ≡ tail + room = omega arith in
-              let lines_same : x ∷ evened y ∷ rest ≡ back_lines lines (2 * p + 1) p (suc n) =
-              rw (lt-ltb (2 * p) (2 * p + 1) (omega arith), le-ltb (2 * p + 1) (2 * p + 1) (omega arith), e, back_early lines (2 * p + 1) (p + 1) n (omega arith)) refl in
               ap (λ (l : List ℤ). late_from f escaped p l tail room) start ∙
               pair-late p (evened x) (evened y) rest tail room x (evened y) (tail + length a) left (tail + length a + left) 0 (same ∙ e) one cut _ (late-full f escaped (p + 1) rest (tail + length a + left)) ∙
-              rw (size, at) (same-late lines_same end (omega arith))
+              rw (size, at) (same-late lines-second end (omega arith))
 
           when-second : Backs p (suc n) tail room
           when-second stands =

@@ -1,6 +1,6 @@
 -- A line whose magnitude is far below 2^31 fits 32 bits, and so do its negation and what is one larger: the code's arithmetic on it is
 -- exact. Assumes nothing.
-use Rattle.std.proofs.Common.{◌≡◌, suc, ◌+◌, ◌-◌, ◌^◌, ◌≤◌, Bool, true, false, cond, T, eqb, ℤ, pos, negsuc, ◌+ℤ◌, ◌-ℤ◌, nat_abs, sym, refl, ap, true≢false, add-zero, zero-add, add-one, arith, to_z-of_z, w32, Fits, SFits, to_z, of_z, ltb-true, ne_eqb}
+use Rattle.std.proofs.Common.{◌≡◌, suc, ◌-◌, ◌^◌, ◌≤◌, Bool, true, false, cond, T, eqb, ℤ, pos, negsuc, ◌+ℤ◌, ◌-ℤ◌, nat_abs, sym, refl, ap, true≢false, add-zero, zero-add, add-one, arith, to_z-of_z, w32, Fits, SFits, to_z, of_z, ltb-true, ne_eqb}
 use lib.Signed.{lt_z, non_neg}
 use Rattle.residual_data.specs.Residual.{larger}
 

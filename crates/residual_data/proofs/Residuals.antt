@@ -1,6 +1,6 @@
 -- The residual list, one line and one bit at a time: a line that is not 0 counts one, and while there is room it takes the next bit.
 -- Assumes nothing.
-use Rattle.std.proofs.Common.{◌≡◌, ℕ, zero, suc, ◌+◌, ◌-◌, ◌<◌, ◌≤◌, min, cond, eqb, List, [], ◌∷◌, ◌++◌, length, get_or, take, drop, set, ℤ, pos, nat_abs, refl, ap, ◌∙◌, append_assoc, add-zero, add-one, arith, drop-cons, take-suc}
+use Rattle.std.proofs.Common.{◌≡◌, ℕ, zero, suc, ◌+◌, ◌<◌, ◌≤◌, min, cond, eqb, List, [], ◌∷◌, ◌++◌, length, get_or, take, drop, set, ℤ, pos, nat_abs, refl, ap, ◌∙◌, append_assoc, add-zero, add-one, arith, drop-cons, take-suc}
 use lib.Seq.{set_at}
 use Rattle.common.proofs.Bools.{by-test}
 use Rattle.buffer_reader.specs.Tail.{tail_bit}

@@ -1,13 +1,12 @@
 -- The bits that are used count the tail's and at least two more than the head's whole bytes. So behind check 12 each bit that is left
 -- stands before the head by what a read allows, and none is refused. Assumes nothing.
-use Rattle.std.proofs.Common.{◌≡◌, ℕ, ◌+◌, ◌-◌, ◌*◌, ◌/◌, ◌<◌, ◌≤◌, false, eqb, ltb, List, length, sym, refl, arith, ltb-false, le-ltb, lt-ltb}
-use borrow.Author.Tests.{lt-leb}
+use Rattle.std.proofs.Common.{◌≡◌, ℕ, ◌+◌, ◌-◌, ◌*◌, ◌<◌, ◌≤◌, eqb, ltb, List, length, sym, refl, arith, ltb-false, le-ltb, lt-ltb}
 use Rattle.common.specs.Last.{floor_log2}
 use Rattle.common.specs.Reply.{accepted, refused, residual_negative}
 use Rattle.common.proofs.Lasts.{log-range}
 use Rattle.common.proofs.Replies.{given-split, accepted-same}
 use Rattle.buffer_reader.specs.Tail.{tail_bit}
-use Rattle.buffer_reader.specs.Reads.{take_bit, bit_beyond}
+use Rattle.buffer_reader.specs.Reads.{take_bit}
 use Rattle.buffer_reader.specs.declared.Cursor.{Cursor}
 use Rattle.buffer_reader.proofs.Answers.{bit-there, bit-taken}
 use Rattle.residual_data.specs.Residual.{used_bits, available}

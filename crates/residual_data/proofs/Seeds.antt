@@ -1,6 +1,6 @@
 -- The seed is a sum over the lines, so one line more adds its magnitude times its index; and cut to 32 bits on the way it is the same
 -- behind them. Assumes nothing.
-use Rattle.std.proofs.Common.{◌≡◌, ℕ, zero, suc, ◌+◌, ◌*◌, ◌%◌, ◌^◌, ◌<◌, ◌≤◌, List, [], ◌∷◌, ◌++◌, length, get_or, take, ℤ, pos, nat_abs, refl, add-zero, mul-le-mul, zero-add, add-one, arith, length-take-le, take-suc}
+use Rattle.std.proofs.Common.{◌≡◌, ℕ, suc, ◌+◌, ◌*◌, ◌%◌, ◌^◌, ◌<◌, ◌≤◌, List, [], ◌∷◌, ◌++◌, length, get_or, take, ℤ, pos, nat_abs, refl, add-zero, mul-le-mul, zero-add, add-one, arith, length-take-le, take-suc}
 use Rattle.residual_data.specs.Sums.{weighted}
 
 weighted-append : (j : ℕ) (xs : List ℤ) (x : ℤ) → weighted j (xs ++ (x ∷ [])) ≡ weighted j xs + nat_abs x * (j + length xs)

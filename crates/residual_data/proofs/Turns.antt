@@ -1,6 +1,6 @@
 -- One turn of the loop over the pairs: what is left from pair p on, behind the lines that are passed, is what the whole asks.
 -- Assumes nothing.
-use Rattle.std.proofs.Common.{◌≡◌, ℕ, suc, ◌+◌, ◌-◌, ◌*◌, ◌<◌, ◌≤◌, Bool, true, false, List, [], ◌∷◌, ◌++◌, length, get_or, take, drop, set, ℤ, pos, nat_abs, sym, refl, ap, ◌∙◌, append_assoc, append-nil, add-zero, arith, length-set, take-append-drop, drop_of_length-le, length-take-le, get_or-drop, drop-cons, get_or-take, take-suc, drop-drop, take-suc-set, drop-set-lt}
+use Rattle.std.proofs.Common.{◌≡◌, ℕ, suc, ◌+◌, ◌*◌, ◌<◌, ◌≤◌, Bool, true, false, List, [], ◌∷◌, ◌++◌, length, get_or, take, drop, set, ℤ, pos, nat_abs, sym, refl, ap, ◌∙◌, append_assoc, append-nil, add-zero, arith, length-set, take-append-drop, drop_of_length-le, length-take-le, get_or-drop, drop-cons, get_or-take, take-suc, drop-drop, take-suc-set, drop-set-lt}
 use Rattle.residual_data.specs.Residual.{Late, late_line, AllLate, late_from}
 use Rattle.residual_data.specs.Private.{AtMost}
 use Rattle.residual_data.proofs.Lates.{line-spends}

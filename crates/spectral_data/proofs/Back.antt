@@ -14,7 +14,7 @@ use lib.Pow.{split, mod-pow-add, shr-shr}
 use Rattle.common.specs.Reply.{Reply, accepted, symbol, bit, fourteen_escapes}
 use Rattle.common.specs.Tables.{row_at}
 use Rattle.common.proofs.Bools.{by-test, same-ltb, and-second-fails}
-use Rattle.contexts.specs.Contexts.{lookup_start, row_of, escape_symbol, shifted, escapes, first_part, second_part, pair_symbol, next_context, context_behind}
+use Rattle.contexts.specs.Contexts.{lookup_start, row_of, escape_symbol, shifted, first_part, second_part, pair_symbol, next_context, context_behind}
 use Rattle.contexts.specs.Lines.{line_at, magnitude_at, minus, escapes_at, early_line}
 use Rattle.contexts.proofs.Evened.{signed_as, signed_same, signed-zero, signed-evened}
 use Rattle.contexts.proofs.Magnitudes.{minus-low}
@@ -22,9 +22,8 @@ use Rattle.contexts.proofs.Escapes.{Escaped, escapes-law, escapes-most, pair-sym
 use Rattle.buffer_reader.specs.Steps.{refusing}
 use Rattle.buffer_reader.specs.Tail.{Bytes}
 use Rattle.range_encoder.specs.Interval.{Sent, Interval, behind}
-use Rattle.range_encoder.specs.Runs.{AllPass}
-use Rattle.range_encoder.specs.Theory.{Within, Inside, state_at, cursor_at}
-use Rattle.sending.specs.Sending.{Bit, sent, owned, low, sign, Stands}
+use Rattle.range_encoder.specs.Theory.{state_at}
+use Rattle.sending.specs.Sending.{Bit, sent, owned, low, sign}
 use Rattle.coding.specs.Coding.{Coding, done, onward, met, symbol_by, tail_bit_by}
 use Rattle.spectral_data.specs.Spectral.{Levels, low_bits, behind_escape, read_levels, read_sign, read_pair, read_pairs}
 use Rattle.spectral_data.specs.Sent.{sent_escapes, sent_pair, sent_pairs, low_at, lows_from, early, sign_at, pair_bits, pairs_bits, pair_at, pairs_of}

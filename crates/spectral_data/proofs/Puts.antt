@@ -16,7 +16,7 @@ use Rattle.contexts.proofs.Escapes.{escapes-few}
 use Rattle.contexts.proofs.Magnitudes.{minus-low}
 use Rattle.buffer_writer.specs.Writes.{put_bit}
 use Rattle.sending.specs.Sending.{Owner, Bit, low, sign, owned}
-use Rattle.sending.specs.Private.{put_all, Puts, AllBits, no_bits, more-bits}
+use Rattle.sending.specs.Private.{Puts, AllBits, no_bits, more-bits}
 use Rattle.sending.proofs.Puts.{put-all-append, put-all-length, put-all-none, put-all-one}
 use Rattle.sending.proofs.Stands.{bits-append}
 use Rattle.spectral_data.specs.Sent.{low_at, lows_from, early, sign_at, pair_bits, pairs_bits}

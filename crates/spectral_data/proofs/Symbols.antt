@@ -6,12 +6,10 @@ use mathlib.Core.Bool.{Bool, cond, ◌&&◌}
 use mathlib.Core.List.{List, [], ◌∷◌}
 use lib.Dec.{ltb, eqb}
 use lib.IntN.{pos, neg_ℤ}
-use Rattle.common.specs.Reply.{symbol, bit, accepted, fourteen_escapes}
+use Rattle.common.specs.Reply.{symbol, bit, fourteen_escapes}
 use Rattle.common.specs.Tables.{row_at}
-use Rattle.buffer_reader.specs.declared.Cursor.{Cursor}
-use Rattle.contexts.specs.Contexts.{row_of, escape_symbol, first_part, second_part, lookup_start, next_context}
-use Rattle.range_decoder.specs.declared.DecoderState.{DecoderState}
-use Rattle.coding.specs.Coding.{Coded, Coding, done, onward, met, symbol_by, tail_bit_by}
+use Rattle.contexts.specs.Contexts.{row_of, escape_symbol, first_part, second_part, lookup_start}
+use Rattle.coding.specs.Coding.{Coding, done, onward, met, symbol_by, tail_bit_by}
 use Rattle.spectral_data.specs.Spectral.{Pair, Levels, low_bits, behind_escape, read_levels, read_sign, read_pair, read_pairs}
 use Rattle.spectral_data.specs.Private.{signs_by}
 use Rattle.spectral_data.proofs.Heads.{Forward, Still, still-done, still-onward, still-if, still-refusing, still-bit, forward-still, forward-onward, forward-if, forward-symbol}

@@ -9,7 +9,7 @@ use crate::number::{two, word};
 use range_encoder::{EncoderState, Finished, inner};
 
 // The encoder behind a list, if every symbol of it could be sent.
-#[derive(Drop)]
+#[derive(Clone, Copy)]
 struct Coded {
     st: EncoderState,
     is_sent: bool,

@@ -1,4 +1,6 @@
 // Replays calls against the answers that are expected: records from standard input, a verdict last.
+#![tactic(auto)]
+
 mod agreement;
 mod answers;
 mod buffer_cases;
@@ -12,16 +14,24 @@ mod report;
 mod side_cases;
 mod tally;
 
-ghost use Rattle.std.specs.Prelude.{◌≤◌, ◌≡◌, length};
+ghost use Rattle.std.specs.Prelude.{◌≤◌, ◌≡◌, length, IfOk};
 ghost use Rattle.vectors.specs.Place.{Parts};
 
 use record::{Record, Taken};
+use std::io;
+use std::io::Read;
 use tally::Tally;
 
 // One record: this code's answer beside the one that is expected. The first that differs is said at once.
-fn replay(buf: &mut [u8], lent: &[u8], r: Record, tally: Tally) -> Tally
+fn replay(
+    rt: &impl Print,
+    buf: &mut [u8],
+    lent: &[u8],
+    r: Record,
+    tally: Tally,
+) -> io::Result<Tally>
     requires { Parts r (length buf.old) }
-    ensures { result.lent ≡ tally.lent }
+    ensures { IfOk result (λ next. next.lent ≡ tally.lent) }
 {
     let kind = r.kind;
     let bytes = r.bytes;
@@ -29,12 +39,12 @@ fn replay(buf: &mut [u8], lent: &[u8], r: Record, tally: Tally) -> Tally
     let numbers = number::all(&buf[8..bytes]);
     let ours = answers::answer(kind, numbers, &mut buf[bytes..want], lent);
     if agreed(buf, r, ours) {
-        return tally.counted(kind);
+        return Ok(tally.counted(kind));
     }
     if tally.differ == 0 {
-        report::difference(tally.records, buf, lent, r, ours);
+        report::difference(rt, tally.records, buf, lent, r, ours)?;
     }
-    tally.differed(kind)
+    Ok(tally.differed(kind))
 }
 
 // Bytes that a call leaves are compared where the record has any.
@@ -51,37 +61,48 @@ fn agreed(buf: &[u8], r: Record, ours: [usize; 24]) -> bool
     left == end || agreement::agrees(&buf[left..end], &buf[bytes..want])
 }
 
-fn turn(buf: &mut [u8], lent: &mut [u8], tally: Tally) -> Tally
+fn turn<R: Read>(
+    rt: &impl Print,
+    from: &mut R,
+    buf: &mut [u8],
+    lent: &mut [u8],
+    tally: Tally,
+) -> io::Result<Tally>
     requires { (length buf.old ≡ 65536) × (length lent.old ≡ 65536) × (tally.lent ≤ 65536) }
-    ensures { result.lent ≤ 65536 }
+    ensures { IfOk result (λ next. next.lent ≤ 65536) }
 {
-    match record::next(buf, lent) {
+    match record::next(from, buf, lent)? {
         Taken::Whole(r) => {
             let end = tally.lent;
-            replay(buf, &lent[0..end], r, tally)
+            replay(rt, buf, &lent[0..end], r, tally)
         }
-        Taken::Lent(count) => tally.lends(count),
-        Taken::Ended => tally.ended(false),
-        Taken::Cut => tally.ended(true),
+        Taken::Lent(count) => Ok(tally.lends(count)),
+        Taken::Ended => Ok(tally.ended(false)),
+        Taken::Cut => Ok(tally.ended(true)),
     }
 }
 
 // A loop has to end, and nothing says that an input does: the turns are counted down from a number that no run uses up.
-fn run(buf: &mut [u8], lent: &mut [u8]) -> Tally
+fn run<R: Read>(
+    rt: &impl Print,
+    from: &mut R,
+    buf: &mut [u8],
+    lent: &mut [u8],
+) -> io::Result<Tally>
     requires { (length buf.old ≡ 65536) × (length lent.old ≡ 65536) }
 {
     let mut tally = Tally::new();
     let mut turns = u64::MAX;
     while turns > 0 && tally.is_going {
-        tally = turn(buf, lent, tally);
+        tally = turn(rt, from, buf, lent, tally)?;
         turns -= 1;
     }
-    tally
+    Ok(tally)
 }
 
-fn main() {
-    let mut buf = io::large_buffer();
-    let mut lent = io::large_buffer();
-    let tally = run(&mut buf, &mut lent);
-    report::report(tally);
+fn main(rt: HostRuntime) -> io::Result<()> {
+    let mut buf = [0u8; 65536];
+    let mut lent = [0u8; 65536];
+    let tally = run(&rt, &mut rt.stdin(), &mut buf, &mut lent)?;
+    report::report(&rt, tally)
 }

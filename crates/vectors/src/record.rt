@@ -1,13 +1,14 @@
 // Records of the input: a kind, how many numbers the call has and how many the answer, a byte each, and one of no meaning; how
 // many bytes the call has and how many it leaves, two bytes each. Then the call's numbers and bytes, and the answer's.
-ghost use Rattle.std.specs.Prelude.{◌≤◌, ◌≡◌, length};
+ghost use Rattle.std.specs.Prelude.{◌≤◌, ◌≡◌, length, IfOk};
 ghost use Rattle.vectors.specs.Place.{Parts, Placed};
 
 use crate::number::{two, wide};
-use libc::STDIN_FILENO;
+use std::io;
+use std::io::Read;
 
 // Where the parts stand in the buffer: the call's numbers from 8 on.
-#[derive(Drop)]
+#[derive(Clone, Copy)]
 pub(crate) struct Record {
     pub(crate) kind: u8,
     pub(crate) bytes: usize,
@@ -17,7 +18,7 @@ pub(crate) struct Record {
 }
 
 // Kind 0 is no call: what stands in such a record is lent to those behind it, so many bytes.
-#[derive(Drop)]
+#[derive(Clone, Copy)]
 pub(crate) enum Taken {
     Whole(Record),
     Lent(usize),
@@ -42,40 +43,55 @@ fn parts(buf: &[u8]) -> Record
     }
 }
 
-// Reads a record: to the front of `buf`, or what is lent to the front of `lent`.
-pub(crate) fn next(buf: &mut [u8], lent: &mut [u8]) -> Taken
-    requires { (length buf.old ≡ 65536) × (length lent.old ≡ 65536) }
-    ensures { Placed result 65536 }
+// Reads until `to` is full, or the input ends: how many bytes stand at its front.
+fn fill<R: Read>(from: &mut R, to: &mut [u8]) -> io::Result<usize>
+    ensures { IfOk result (λ got. got ≤ length to.new) }
 {
-    let got = io::read_full(STDIN_FILENO, &mut buf[0..8]);
+    let mut done = 0;
+    while done < to.len() {
+        let got = from.read(&mut to[done..])?;
+        if got == 0 {
+            return Ok(done);
+        }
+        done += got;
+    }
+    Ok(done)
+}
+
+// Reads a record: to the front of `buf`, or what is lent to the front of `lent`.
+pub(crate) fn next<R: Read>(from: &mut R, buf: &mut [u8], lent: &mut [u8]) -> io::Result<Taken>
+    requires { (length buf.old ≡ 65536) × (length lent.old ≡ 65536) }
+    ensures { IfOk result (λ taken. Placed taken 65536) }
+{
+    let got = fill(from, &mut buf[0..8])?;
     if got == 0 {
-        return Taken::Ended;
+        return Ok(Taken::Ended);
     }
     if got < 8 {
-        return Taken::Cut;
+        return Ok(Taken::Cut);
     }
     let r = parts(buf);
     let end = r.end;
     if 65536 < end {
-        return Taken::Cut;
+        return Ok(Taken::Cut);
     }
     if r.kind == 0 {
-        return lend(lent, end - 8);
+        return lend(from, lent, end - 8);
     }
-    let got = io::read_full(STDIN_FILENO, &mut buf[8..end]);
+    let got = fill(from, &mut buf[8..end])?;
     if got < end - 8 {
-        return Taken::Cut;
+        return Ok(Taken::Cut);
     }
-    Taken::Whole(r)
+    Ok(Taken::Whole(r))
 }
 
-fn lend(lent: &mut [u8], count: usize) -> Taken
+fn lend<R: Read>(from: &mut R, lent: &mut [u8], count: usize) -> io::Result<Taken>
     requires { (count ≤ 65536) × (length lent.old ≡ 65536) }
-    ensures { Placed result 65536 }
+    ensures { IfOk result (λ taken. Placed taken 65536) }
 {
-    let got = io::read_full(STDIN_FILENO, &mut lent[0..count]);
+    let got = fill(from, &mut lent[0..count])?;
     if got < count {
-        return Taken::Cut;
+        return Ok(Taken::Cut);
     }
-    Taken::Lent(count)
+    Ok(Taken::Lent(count))
 }

@@ -2,85 +2,78 @@
 ghost use Rattle.std.specs.Prelude.{length};
 ghost use Rattle.vectors.specs.Place.{Parts};
 
-use crate::number::wide;
 use crate::record::Record;
 use crate::tally::{Tally, more};
-use io::{print_decimal, print_hex, write_all};
-use libc::STDOUT_FILENO;
-
-fn said(text: &[u8]) {
-    write_all(STDOUT_FILENO, text);
-}
+use std::io;
 
 // The bytes of a call that writes are as it left them here.
-pub(crate) fn difference(before: u64, buf: &[u8], lent: &[u8], r: Record, ours: [usize; 24])
+pub(crate) fn difference(
+    rt: &impl Print,
+    before: u64,
+    buf: &[u8],
+    lent: &[u8],
+    r: Record,
+    ours: [usize; 24],
+) -> io::Result<()>
     requires { Parts r (length buf.now) }
 {
     let bytes = r.bytes;
     let want = r.want;
     let end = r.end;
-    said(b"first difference: record ");
-    print_decimal(STDOUT_FILENO, more(before));
-    said(b" kind ");
-    print_decimal(STDOUT_FILENO, wide(r.kind) as u64);
-    line(b"\ncall ", &buf[8..bytes]);
-    line(b"with ", &buf[bytes..want]);
-    line(b"want ", &buf[want..end]);
-    numbers(ours);
-    line(b"\nlent ", lent);
+    let record = more(before);
+    let kind = r.kind;
+    println!(rt; "first difference: record {record} kind {kind}")?;
+    line(rt, "call", &buf[8..bytes])?;
+    line(rt, "with", &buf[bytes..want])?;
+    line(rt, "want", &buf[want..end])?;
+    numbers(rt, ours)?;
+    line(rt, "lent", lent)
 }
 
-fn line(name: &[u8], bytes: &[u8]) {
-    said(name);
-    let mut i = 0;
-    while i < bytes.len() {
-        print_hex(STDOUT_FILENO, wide(bytes[i]) as u64, 2);
-        i += 1;
+fn line(rt: &impl Print, name: &str, bytes: &[u8]) -> io::Result<()> {
+    print!(rt; "{name} ")?;
+    for byte in bytes {
+        print!(rt; "{byte:02x}")?;
     }
-    said(b"\n");
+    println!(rt; "")
 }
 
-fn numbers(ours: [usize; 24]) {
-    said(b"here ");
-    let mut i = 0;
-    while i < 24 {
-        print_hex(STDOUT_FILENO, ours[i] as u64, 16);
-        i += 1;
+fn numbers(rt: &impl Print, ours: [usize; 24]) -> io::Result<()> {
+    print!(rt; "here ")?;
+    for number in &ours {
+        print!(rt; "{number:016x}")?;
     }
+    println!(rt; "")
 }
 
-pub(crate) fn report(tally: Tally) {
+pub(crate) fn report(rt: &impl Print, tally: Tally) -> io::Result<()> {
     let cases = tally.cases;
-    module(b"buffer_reader", cases[0]);
-    module(b"buffer_writer", cases[1]);
-    module(b"side_info", cases[2]);
-    module(b"range_decoder", cases[3]);
-    module(b"range_encoder", cases[4]);
-    module(b"spectral_quantization", cases[5]);
-    verdict(tally);
+    module(rt, "buffer_reader", cases[0])?;
+    module(rt, "buffer_writer", cases[1])?;
+    module(rt, "side_info", cases[2])?;
+    module(rt, "range_decoder", cases[3])?;
+    module(rt, "range_encoder", cases[4])?;
+    module(rt, "spectral_quantization", cases[5])?;
+    verdict(rt, tally)
 }
 
-fn module(name: &[u8], cases: u64) {
+fn module(rt: &impl Print, name: &str, cases: u64) -> io::Result<()> {
     if cases == 0 {
-        return;
+        return Ok(());
     }
-    said(name);
-    said(b": ");
-    print_decimal(STDOUT_FILENO, cases);
-    said(b" cases\n");
+    println!(rt; "{name}: {cases} cases")
 }
 
-fn verdict(tally: Tally) {
+fn verdict(rt: &impl Print, tally: Tally) -> io::Result<()> {
     if tally.is_malformed {
-        said(b"malformed record ");
-        print_decimal(STDOUT_FILENO, more(tally.records));
-        said(b"\n");
+        let record = more(tally.records);
+        println!(rt; "malformed record {record}")
     } else if tally.records == 0 {
-        said(b"no cases\n");
+        println!(rt; "no cases")
     } else if tally.differ == 0 {
-        said(b"all agree\n");
+        println!(rt; "all agree")
     } else {
-        print_decimal(STDOUT_FILENO, tally.differ);
-        said(b" differ\n");
+        let differ = tally.differ;
+        println!(rt; "{differ} differ")
     }
 }

@@ -37,11 +37,11 @@ impl Tally {
         ensures { result.lent ≡ self.lent }
     {
         let mut all = self;
-        let mut cases = self.cases;
+        let mut cases = all.cases;
         let place = wide(kind) / 16 % 8;
         cases[place] = more(cases[place]);
         all.cases = cases;
-        all.records = more(self.records);
+        all.records = more(all.records);
         all
     }
 
@@ -49,7 +49,7 @@ impl Tally {
         ensures { result.lent ≡ self.lent }
     {
         let mut all = self.counted(kind);
-        all.differ = more(self.differ);
+        all.differ = more(all.differ);
         all
     }
 

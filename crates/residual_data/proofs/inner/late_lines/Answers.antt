@@ -1,13 +1,13 @@
 -- `inner::late_lines` meets its contract: what is left from a pair on, behind the lines that are passed, is what the whole asks.
 -- Assumes nothing.
-use Rattle.std.proofs.Common.{◌≡◌, ◌+◌, ◌-◌, ◌*◌, ◌<◌, ◌≤◌, length, get_or, take, ℤ, pos, nat_abs, sym, ap, ◌∙◌, ⊎_elim, arith, length-set, w32, to_z, of_z}
+use Rattle.std.proofs.Common.{◌≡◌, ◌+◌, ◌*◌, ◌<◌, ◌≤◌, length, get_or, take, ℤ, pos, nat_abs, sym, ap, ◌∙◌, arith, length-set, w32, to_z, of_z}
 use Rattle.residual_data.specs.Residual.{Late, late_line, escaped_by}
 use Rattle.residual_data.specs.Private.{late_of}
 use Rattle.residual_data.proofs.Lines.{same_line}
 use Rattle.residual_data.proofs.Lates.{line-spends, line-held}
 use Rattle.residual_data.proofs.Turns.{passed_start, ahead-most, passed-kept, passed-late, passed-end}
 use Rattle.residual_data.proofs.inner.late_lines.Goals as goal
-use Rattle.residual_data.proofs.inner.late_lines.Goals.{In-loop-p}
+use Rattle.residual_data.proofs.inner.late_lines.Goals.{In-loop-p, then-escaped, else-escaped}
 
 -- the two lines of the pair, their bounds, and that they are there
 abbrev first : In-loop-p → ℤ
@@ -54,19 +54,23 @@ bounds-lines-p-then-escaped c = rw length-set (omega (arith, long (goal.at.bound
 pub loop-p-preserved : goal.loop-p-preserved
 loop-p-preserved c =
     let a = c.args in
-    ⊎_elim
-    (λ w.
-    let most = ready (goal.at.loop-p-preserved c).In-loop-p in
-    let at_first : late_of w.2.result ≡ late_line a.buf.now (first (goal.at.loop-p-preserved c).In-loop-p) c.loop-p.at c.loop-p.left = w.2.ensures ∙ ap (λ (z : ℤ). late_line a.buf.now z c.loop-p.at c.loop-p.left) (same_line (first (goal.at.loop-p-preserved c).In-loop-p) (omega arith)) in
-    let at_second : late_of w.4.result ≡ late_line a.buf.now (second (goal.at.loop-p-preserved c).In-loop-p) w.2.result.tail w.2.result.room = w.4.ensures ∙ ap (λ (z : ℤ). late_line a.buf.now z w.2.result.tail w.2.result.room) (same_line (second (goal.at.loop-p-preserved c).In-loop-p) (omega arith)) in
-    let x-held = line-held a.buf.now (first (goal.at.loop-p-preserved c).In-loop-p) c.loop-p.at c.loop-p.left w.2.result.line most.0 (ap (λ (z : Late). z.line) at_first) in
-    let y-held = line-held a.buf.now (second (goal.at.loop-p-preserved c).In-loop-p) w.2.result.tail w.2.result.room w.4.result.line most.1 (ap (λ (z : Late). z.line) at_second) in
-    rw (w.7, w.8, w.9, x-held, y-held)
-    (omega arith, passed-late c.args.buf.now (escaped_by c.args.reading (take c.args.pairs c.args.levels.now)) c.args.lines.now c.args.pairs c.args.tail c.args.room (omega arith) c.loop-p.lines c.loop-p.at c.loop-p.left c.loop-p.p (omega arith) c.loop-p.invariant.1 (sym c.escaped.ensures ∙ w.0.taken) (late_of w.2.result) (late_of w.4.result) at_first at_second))
-    (λ w.
-    rw (w.1, w.2, w.3)
-    (omega arith, passed-kept c.args.buf.now (escaped_by c.args.reading (take c.args.pairs c.args.levels.now)) c.args.lines.now c.args.pairs c.args.tail c.args.room (omega arith) c.loop-p.lines c.loop-p.at c.loop-p.left c.loop-p.p (omega arith) c.loop-p.invariant.1 (sym c.escaped.ensures ∙ w.0.left)))
-    c.if-escaped.branch
+    let l = c.loop-p in
+    let here = (goal.at.loop-p-preserved c).In-loop-p in
+    elim c.if-escaped.branch [
+      | then-escaped w ↦
+          let u = w.late_line-first.result in
+          let v = w.late_line-second.result in
+          let most = ready here in
+          let at_first : late_of u ≡ late_line a.buf.now (first here) l.at l.left = w.late_line-first.ensures ∙ ap (λ (z : ℤ). late_line a.buf.now z l.at l.left) (same_line (first here) (omega arith)) in
+          let at_second : late_of v ≡ late_line a.buf.now (second here) u.tail u.room = w.late_line-second.ensures ∙ ap (λ (z : ℤ). late_line a.buf.now z u.tail u.room) (same_line (second here) (omega arith)) in
+          let x-held = line-held a.buf.now (first here) l.at l.left u.line most.0 (ap (λ (z : Late). z.line) at_first) in
+          let y-held = line-held a.buf.now (second here) u.tail u.room v.line most.1 (ap (λ (z : Late). z.line) at_second) in
+          rw (w.lines-is, w.at-is, w.left-is, x-held, y-held)
+          (omega arith, passed-late a.buf.now (escaped_by a.reading (take a.pairs a.levels.now)) a.lines.now a.pairs a.tail a.room (omega arith) l.lines l.at l.left l.p (omega arith) l.invariant.1 (sym c.escaped.ensures ∙ w.if-escaped.true) (late_of u) (late_of v) at_first at_second)
+      | else-escaped w ↦
+          rw (w.lines-is, w.at-is, w.left-is)
+          (omega arith, passed-kept a.buf.now (escaped_by a.reading (take a.pairs a.levels.now)) a.lines.now a.pairs a.tail a.room (omega arith) l.lines l.at l.left l.p (omega arith) l.invariant.1 (sym c.escaped.ensures ∙ w.if-escaped.false))
+    ]
 
 pub shape_of-lines : goal.shape_of-lines
 shape_of-lines c = c.loop-p.invariant.1.size

@@ -1,6 +1,6 @@
 -- `inner::lay_bits` meets its contract: in front stand the bits that are laid, and behind them the list is as it was.
 -- Assumes nothing.
-use Rattle.std.proofs.Common.{◌≡◌, ◌-◌, refl, arith, length-set}
+use Rattle.std.proofs.Common.{◌≡◌, refl, arith, length-set}
 use Rattle.residual_data.proofs.Residuals.{bits_none, bits-one}
 use Rattle.residual_data.proofs.inner.lay_bits.Goals as goal
 

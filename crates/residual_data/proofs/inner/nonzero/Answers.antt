@@ -1,6 +1,6 @@
 -- `inner::nonzero` meets its contract: one line more counts what the definition says of it.
 -- Assumes nothing.
-use Rattle.std.proofs.Common.{◌≡◌, ◌-◌, ◌≤◌, get_or, pos, refl, arith, to_z-of_z, w32, SFits}
+use Rattle.std.proofs.Common.{◌≡◌, ◌≤◌, get_or, pos, refl, arith, to_z-of_z, w32, SFits}
 use Rattle.residual_data.proofs.Residuals.{counts, nonzero-none, nonzero-turn, counts-most}
 use Rattle.residual_data.proofs.inner.nonzero.Goals as goal
 use Rattle.residual_data.proofs.inner.nonzero.Goals.{After-counts-n}

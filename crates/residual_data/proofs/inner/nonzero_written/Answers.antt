@@ -1,6 +1,6 @@
 -- `inner::nonzero_written` meets its contract: one line more counts what the definition says of it.
 -- Assumes nothing.
-use Rattle.std.proofs.Common.{◌≡◌, ◌-◌, ◌≤◌, length, get_or, pos, refl, arith}
+use Rattle.std.proofs.Common.{◌≡◌, ◌≤◌, length, get_or, pos, refl, arith}
 use lib.Seq.{take-length}
 use Rattle.contexts.proofs.Magnitudes.{magnitude-read}
 use Rattle.residual_data.proofs.Residuals.{counts, nonzero-none, nonzero-turn, counts-most}

@@ -1,6 +1,6 @@
 -- `inner::put_residual` meets its contract: behind i turns the first i bits of the list are put, and their values are the list's low bits.
 -- Assumes nothing.
-use Rattle.std.proofs.Common.{◌≡◌, ◌-◌, ◌<◌, true, length, take, sym, refl, ap, ◌∙◌, arith}
+use Rattle.std.proofs.Common.{◌≡◌, ◌<◌, true, length, take, sym, refl, ap, ◌∙◌, arith}
 use Rattle.sending.proofs.Puts.{put-bits-length, put-all-none}
 use Rattle.residual_data.specs.Sent.{residual_bits}
 use Rattle.residual_data.proofs.Puts.{residual-turn, residual-cut}

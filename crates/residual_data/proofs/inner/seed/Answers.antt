@@ -1,6 +1,6 @@
 -- `inner::seed` meets its contract: each line adds its magnitude times its index, and a sum cut to 32 bits on the way is cut the same.
 -- Assumes nothing.
-use Rattle.std.proofs.Common.{◌≡◌, ◌-◌, get_or, pos, nat_abs, refl, arith}
+use Rattle.std.proofs.Common.{◌≡◌, get_or, pos, nat_abs, refl, arith}
 use Rattle.residual_data.proofs.Lines.{same_line}
 use Rattle.residual_data.proofs.Seeds.{sum-none, sum_one, product-fits}
 use Rattle.residual_data.proofs.inner.seed.Goals as goal
@@ -24,7 +24,7 @@ overflow_mul-magnitude c = record { fits = product-fits c.magnitude.result c.loo
 pub loop-k-preserved : goal.loop-k-preserved
 loop-k-preserved c =
     let a = c.args in
-    (omega arith, rw (c.wrapping_add_u32-sum.ensures, told (goal.at.loop-k-preserved c).After-magnitude) (sum_one a.lines.now c.loop-k.k c.loop-k.sum (omega arith) c.loop-k.invariant.1))
+    (omega arith, rw (c.wrapping_add_u32-sum.ensures.value, told (goal.at.loop-k-preserved c).After-magnitude) (sum_one a.lines.now c.loop-k.k c.loop-k.sum (omega arith) c.loop-k.invariant.1))
 
 pub returns : goal.returns
 returns c =

@@ -10,7 +10,7 @@ use Rattle.buffer_reader.specs.declared.Cursor.{Cursor}
 use Rattle.coding.specs.Coding.{Coded}
 use native.Mathlib.Omega.{arith}
 use mathlib.Core.Path.{◌≡◌, refl, sym, ap, ◌∙◌}
-use Prim.Native.Nat.{◌-◌, ◌<◌}
+use Prim.Native.Nat.{◌<◌}
 use Rattle.spectral_data.proofs.inner.read_levels.Goals as goal
 use Rattle.spectral_data.proofs.inner.read_levels.Goals.{In-Escape, In-loop-level}
 
@@ -20,9 +20,7 @@ more c = omega arith
 
 -- a turn's answer, where it is an escape
 abbrev escape_at : (c : In-Escape) → Coded Turned × Cursor
-escape_at c =
-    let v = c.a-1.given.0 in
-    (record { value = escape v.0 v.1.0; state = v.1.1.0 }, v.1.1.1.0)
+escape_at c = (record { value = escape c.in-Escape.a c.in-Escape.b; state = c.in-Escape.after }, c.in-Escape.next)
 
 escaped : (c : In-Escape) →
     let a = c.args in

@@ -14,7 +14,7 @@ use Rattle.common.specs.Reply.{accepted}
 use lib.ListN.{length-set}
 use native.Mathlib.Omega.{arith}
 use mathlib.Core.Path.{◌≡◌, refl, sym, ap, ◌∙◌}
-use Prim.Native.Nat.{ℕ, ◌-◌, ◌*◌, ◌<◌}
+use Prim.Native.Nat.{ℕ, ◌*◌, ◌<◌}
 use Rattle.spectral_data.proofs.inner.read_pairs.Goals as goal
 use Rattle.spectral_data.proofs.inner.read_pairs.Goals.{After-lookup_start-start, In-Read, In-loop-p}
 
@@ -33,9 +33,7 @@ starts_at c =
 
 -- a pair that was read
 abbrev pair_at : (c : In-Read) → Coded Pair × Cursor
-pair_at c =
-    let v = c.read-1.given.0 in
-    (record { value = pair_in v.0; state = v.1.0 }, v.1.1.0)
+pair_at c = (record { value = pair_in c.in-Read.read; state = c.in-Read.after }, c.in-Read.next)
 
 pair_read : (c : In-Read) →
     let a = c.args in
@@ -63,8 +61,7 @@ lookup_start-start-requires c = (c.loop-p.invariant.1, c.requires.1)
 pub read_pair-requires : goal.read_pair-requires
 read_pair-requires c =
     let a = c.args in
-    let j = c.requires.0 in
-    (
+    let j = c.requires.0 in (
       record { short = j.short; range = c.loop-p.invariant.2; looked = j.looked; rows = j.rows },
       rw c.lookup_start-start.ensures (start-low c.loop-p.context a.rate a.ne (2 * c.loop-p.p) c.loop-p.invariant.1 c.requires.1),
     )

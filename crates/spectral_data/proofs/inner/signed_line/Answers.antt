@@ -12,9 +12,8 @@ use Rattle.spectral_data.proofs.inner.signed_line.Goals as goal
 pub returns-in-Bit : goal.returns-in-Bit
 returns-in-Bit c =
     λ s. let a = c.args in
-    let minus = c.minus-1.given in
-    rw (lt-ltb 0 a.magnitude (omega (arith, c.if-magnitude-gt0.true)), ← c.bit.ensures, minus.1)
-    (ap (λ (z : ℤ). accepted (record { value = z; state = s }, minus.0.1.0)) (line_kept a.magnitude c.requires.1 (eqb minus.0.0 1) c.signed.result c.signed.ensures))
+    rw (lt-ltb 0 a.magnitude (omega (arith, c.if-magnitude-gt0.true)), ← c.bit.ensures, c.in-Bit.is)
+    (ap (λ (z : ℤ). accepted (record { value = z; state = s }, c.in-Bit.next)) (line_kept a.magnitude c.requires.1 (eqb c.in-Bit.minus 1) c.signed.result c.signed.ensures))
 
 pub returns-in-Refused : goal.returns-in-Refused
 returns-in-Refused c = λ s. rw (lt-ltb 0 c.args.magnitude (omega (arith, c.if-magnitude-gt0.true)), ← c.bit.ensures, c.in-Refused.is) refl

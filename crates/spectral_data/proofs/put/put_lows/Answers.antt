@@ -1,6 +1,5 @@
 -- `put::put_lows` meets its contract: behind so many levels their bits are put, and room for all is room for the next.
 -- Assumes nothing.
-use Prim.Native.Nat.{◌-◌}
 use mathlib.Core.Path.{◌≡◌}
 use native.Mathlib.Omega.{arith}
 use native.Mathlib.Nat.{zero-add}

@@ -1,6 +1,5 @@
 -- `put::put_pairs` meets its contract: behind p pairs their bits are put, and room for all is room for the next.
 -- Assumes nothing.
-use Prim.Native.Nat.{◌-◌}
 use mathlib.Core.Path.{◌≡◌}
 use native.Mathlib.Omega.{arith}
 use native.Mathlib.Nat.{zero-add}

@@ -44,8 +44,7 @@ symbol-here-requires c =
 
 pub loop-level-preserved : goal.loop-level-preserved
 loop-level-preserved c =
-    let a = c.args in
-    (
+    let a = c.args in (
       omega (arith, c.loop-level-test.true),
       left-symbol a.writing a.st a.buf.now (sent_escapes a.lookup.now a.frequencies.now a.start 0 a.n) c.loop-level.here c.loop-level.buf a.frequencies.now _ _ _ _ _ c.symbol-here.result c.symbol-here.new.buf c.row-row.ensures refl
           (turn (goal.at.loop-level-preserved c).In-loop-level) c.symbol-here.ensures.state c.symbol-here.ensures.lent,

@@ -9,7 +9,7 @@ use Rattle.contexts.proofs.Magnitudes.{magnitude-read}
 use native.Mathlib.Omega.{arith}
 use native.Mathlib.Nat.{sub-zero}
 use mathlib.Core.Path.{◌≡◌, subst, ◌∙◌}
-use Prim.Native.Nat.{◌+◌, ◌-◌, ◌*◌}
+use Prim.Native.Nat.{◌+◌, ◌*◌}
 use Rattle.spectral_data.proofs.send.pairs.Goals as goal
 use Rattle.spectral_data.proofs.send.pairs.Goals.{After-magnitude_at-b}
 
@@ -28,8 +28,7 @@ second_is c = c.magnitude_at-b.ensures.value ∙ magnitude-read c.args.lines.now
 pub pair-here-requires : goal.pair-here-requires
 pair-here-requires c =
     let a = c.args in
-    let pre = c.requires in
-    (
+    let pre = c.requires in (
       pre.0,
       pre.1,
       rw c.lookup_start-start.ensures (start-low c.loop-p.context a.rate a.ne (2 * c.loop-p.p) c.loop-p.invariant.2 pre.2),
@@ -41,8 +40,7 @@ pair-here-requires c =
 
 pub loop-p-preserved : goal.loop-p-preserved
 loop-p-preserved c =
-    let a = c.args in
-    (
+    let a = c.args in (
       omega (arith, c.loop-p-test.true),
       left-pair a.lookup.now a.frequencies.now a.rate a.ne a.lines.now c.loop-p.p a.pairs c.loop-p.context _ _ _ c.loop-p-test.true c.lookup_start-start.ensures (first-is (goal.at.loop-p-preserved c).After-magnitude_at-b) (second_is (goal.at.loop-p-preserved c).After-magnitude_at-b)
           a.writing a.st a.buf.now _ c.loop-p.here c.loop-p.buf c.loop-p.invariant.1 c.context_behind-context.result c.pair-here.result c.pair-here.new.buf c.context_behind-context.ensures c.pair-here.ensures.state c.pair-here.ensures.lent,
