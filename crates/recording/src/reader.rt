@@ -8,7 +8,7 @@ use crate::tags;
 pub const FIELD_MOST: usize = 4096;
 
 // Which fields came before.
-#[derive(Drop)]
+#[derive(Clone, Copy)]
 pub struct Before {
     pub configuration: bool,
     pub lookup: bool,
@@ -19,7 +19,7 @@ pub struct Before {
 }
 
 // A field: where its tag byte stands, where its content begins, and how long that is.
-#[derive(Drop)]
+#[derive(Clone, Copy)]
 pub struct Field {
     pub tag: u8,
     pub at: usize,
@@ -28,7 +28,7 @@ pub struct Field {
 }
 
 // What stands at an offset; refusal 18 has the offset.
-#[derive(Drop)]
+#[derive(Clone, Copy)]
 pub enum FieldAt {
     Found(Field),
     End,

@@ -10,13 +10,13 @@ use common::configuration::Configuration;
 use frame_writer::{FrameWritten, WriteError};
 use side_info::SideInfo;
 
-#[derive(Drop)]
+#[derive(Clone, Copy)]
 pub enum FieldWriteError {
     NoPlace(usize),
     Frame(WriteError),
 }
 
-#[derive(Drop)]
+#[derive(Clone, Copy)]
 pub enum FieldWritten {
     Written(usize),
     Refused(FieldWriteError),

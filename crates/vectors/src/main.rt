@@ -71,7 +71,8 @@ fn turn<R: Read>(
     requires { (length buf.old ≡ 65536) × (length lent.old ≡ 65536) × (tally.lent ≤ 65536) }
     ensures { IfOk result (λ next. next.lent ≤ 65536) }
 {
-    match record::next(from, buf, lent)? {
+    let taken = record::next(from, buf, lent)?;
+    match taken {
         Taken::Whole(r) => {
             let end = tally.lent;
             replay(rt, buf, &lent[0..end], r, tally)

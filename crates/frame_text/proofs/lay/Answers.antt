@@ -13,7 +13,7 @@ nine-requires c =
     let outcome = ap outcome_of (sym c.in-Read.is) ∙ c.read-answer.ensures.outcome in
     let full : length c.read-answer.result.residual ≡ 400 = search rules in
     let many : length c.read-answer.new.lines ≡ 400 = search rules in
-    returned-printable a.number a.configuration (record { lookup = a.lookup.now; frequencies = a.frequencies.now; bits = a.bits.now; orders = a.orders.now; coefficients = a.coefficients.now }) a.frame.now c.in-Read.n c.read-answer.result.indices c.read-answer.result.residual c.read-answer.new.lines _ outcome c.read-answer.ensures.indices.0 c.read-answer.ensures.indices.1.0 c.read-answer.ensures.indices.1.1 refl full many
+    returned-printable a.number a.configuration (record { lookup = a.lookup.now; frequencies = a.frequencies.now; bits = a.bits.now; orders = a.orders.now; coefficients = a.coefficients.now }) a.frame.now c.in-Read.n c.read-answer.result.indices c.read-answer.result.residual c.read-answer.new.lines _ outcome c.read-answer.ensures.indices c.read-answer.ensures.residual c.read-answer.ensures.lent refl full many
 
 pub returns-in-Refused : goal.returns-in-Refused
 returns-in-Refused c =
@@ -24,4 +24,4 @@ pub returns-in-Read : goal.returns-in-Read
 returns-in-Read c =
     let a = c.args in
     let outcome = ap outcome_of (sym c.in-Read.is) ∙ c.read-answer.ensures.outcome in
-    let p = accepted-shown a.number a.configuration (record { lookup = a.lookup.now; frequencies = a.frequencies.now; bits = a.bits.now; orders = a.orders.now; coefficients = a.coefficients.now }) a.frame.now c.in-Read.n c.read-answer.result.indices c.read-answer.result.residual c.read-answer.new.lines _ outcome c.read-answer.ensures.indices.0 c.read-answer.ensures.indices.1.0 c.read-answer.ensures.indices.1.1 refl c.nine.ensures in record { size = p.0; lent = p.1 }
+    let p = accepted-shown a.number a.configuration (record { lookup = a.lookup.now; frequencies = a.frequencies.now; bits = a.bits.now; orders = a.orders.now; coefficients = a.coefficients.now }) a.frame.now c.in-Read.n c.read-answer.result.indices c.read-answer.result.residual c.read-answer.new.lines _ outcome c.read-answer.ensures.indices c.read-answer.ensures.residual c.read-answer.ensures.lent refl c.nine.ensures in record { size = p.0; lent = p.1 }

@@ -6,7 +6,7 @@ use lib.ListN.{length}
 use Rattle.vectors.proofs.run.Given as goal
 
 abbrev pub invariant-loop-turns : goal.invariant-loop-turns
-invariant-loop-turns l = (length l.buf ≡ 65536) × (length l.initial.buf ≡ 65536) × (length l.lent ≡ 65536) × (length l.initial.lent ≡ 65536) × (l.tally.lent ≤ 65536)
+invariant-loop-turns g l = (length l.buf ≡ 65536) × (length l.initial.buf ≡ 65536) × (length l.lent ≡ 65536) × (length l.initial.lent ≡ 65536) × (l.tally.lent ≤ 65536)
 
 abbrev pub decreases-loop-turns : goal.decreases-loop-turns
-decreases-loop-turns l = l.turns
+decreases-loop-turns g l = l.turns

@@ -5,7 +5,7 @@ use Rattle.vectors.proofs.Places.{found, lent-most}
 use Rattle.vectors.proofs.turn.Goals as goal
 
 pub replay-requires : goal.replay-requires
-replay-requires c = found c.in-Whole.is c.next.ensures (omega arith)
+replay-requires g c = found c.in-Whole.is c.in_ok-taken.ensures (omega arith)
 
 pub returns-in-Lent : goal.returns-in-Lent
-returns-in-Lent c = omega (arith, lent-most c.in-Lent.is c.next.ensures)
+returns-in-Lent g c = omega (arith, lent-most c.in-Lent.is c.in_ok-taken.ensures)

@@ -16,7 +16,7 @@ line-next-requires c = (omega arith, rw (same_line _ (c.requires.2 c.loop-k.k)) 
 pub loop-k-preserved : goal.loop-k-preserved
 loop-k-preserved c =
     let same = same_line _ (c.requires.2 c.loop-k.k) in
-    (omega arith, laying-turn (omega arith) (each_turn c.args.lines.now c.loop-k.k (omega arith) same) c.line-next.ensures.text c.line-next.auto.0 c.loop-k.invariant.1)
+    (omega arith, laying-turn (omega arith) (each_turn c.args.lines.now c.loop-k.k (omega arith) same) c.line-next.ensures.text c.line-next.auto.out c.loop-k.invariant.1)
 
 pub returns : goal.returns
 returns c = record { text = laying-end (each-end c.args.lines.now c.loop-k.k c.loop-k-test.false) c.loop-k.invariant.1; most = omega arith }

@@ -6,7 +6,6 @@ use native.Mathlib.Omega.{arith}
 use Rattle.frame_text.proofs.Laid.{laying-start, laying-turn, laying-end}
 use Rattle.frame_text.proofs.Texts.{spaced-turn, spaced-end}
 use Rattle.frame_text.proofs.put.spaced.Goals as goal
-use Rattle.frame_text.proofs.put.spaced.Goals.{After-named-arg-1}
 
 pub loop-i-init : goal.loop-i-init
 loop-i-init c = (omega arith, laying-start)
@@ -16,9 +15,8 @@ named-next-requires c = (omega arith, omega arith)
 
 pub loop-i-preserved : goal.loop-i-preserved
 loop-i-preserved c =
-    let in-loop = (goal.at.loop-i-preserved c).After-named-arg-1 in
-    let numbers = in-loop.before.before.before.before.args.numbers.now in
-    (omega arith, laying-turn (omega arith) (spaced-turn numbers in-loop.before.loop.i _ (omega arith) refl) c.named-next.ensures.text c.named-next.auto.0 in-loop.before.loop.invariant.1)
+    let numbers = c.args.numbers.now in
+    (omega arith, laying-turn (omega arith) (spaced-turn numbers c.loop-i.i _ (omega arith) refl) c.named-next.ensures.text c.named-next.auto.out c.loop-i.invariant.1)
 
 pub returns : goal.returns
 returns c = record { text = laying-end (spaced-end c.args.numbers.now c.loop-i.i c.loop-i-test.false) c.loop-i.invariant.1; most = omega arith }

@@ -1,0 +1,23 @@
+-- Test by test the flag of the table, in the order of the definition.
+-- Assumes nothing.
+use mathlib.Core.Path.{refl}
+use borrow.Author.Tests.{eq-eqb, ne_eqb}
+use Rattle.recording.proofs.reader.Before.table_seen.Goals as goal
+
+pub returns-then-tag-eq-LOOKUP : goal.returns-then-tag-eq-LOOKUP
+returns-then-tag-eq-LOOKUP c = let tag = c.args.tag in rw (eq-eqb tag 0x10 c.if-tag-eq-LOOKUP.true) refl
+
+pub returns-then-tag-eq-FREQUENCIES : goal.returns-then-tag-eq-FREQUENCIES
+returns-then-tag-eq-FREQUENCIES c = let tag = c.args.tag in rw (ne_eqb tag 0x10 c.if-tag-eq-LOOKUP.false, eq-eqb tag 0x11 c.if-tag-eq-FREQUENCIES.true) refl
+
+pub returns-then-tag-eq-BITS : goal.returns-then-tag-eq-BITS
+returns-then-tag-eq-BITS c = let tag = c.args.tag in rw (ne_eqb tag 0x10 c.if-tag-eq-LOOKUP.false, ne_eqb tag 0x11 c.if-tag-eq-FREQUENCIES.false, eq-eqb tag 0x12 c.if-tag-eq-BITS.true) refl
+
+pub returns-then-tag-eq-ORDERS : goal.returns-then-tag-eq-ORDERS
+returns-then-tag-eq-ORDERS c = let tag = c.args.tag in rw (ne_eqb tag 0x10 c.if-tag-eq-LOOKUP.false, ne_eqb tag 0x11 c.if-tag-eq-FREQUENCIES.false, ne_eqb tag 0x12 c.if-tag-eq-BITS.false, eq-eqb tag 0x13 c.if-tag-eq-ORDERS.true) refl
+
+pub returns-then-tag-eq-COEFFICIENTS : goal.returns-then-tag-eq-COEFFICIENTS
+returns-then-tag-eq-COEFFICIENTS c = let tag = c.args.tag in rw (ne_eqb tag 0x10 c.if-tag-eq-LOOKUP.false, ne_eqb tag 0x11 c.if-tag-eq-FREQUENCIES.false, ne_eqb tag 0x12 c.if-tag-eq-BITS.false, ne_eqb tag 0x13 c.if-tag-eq-ORDERS.false, eq-eqb tag 0x14 c.if-tag-eq-COEFFICIENTS.true) refl
+
+pub returns : goal.returns
+returns c = let tag = c.args.tag in rw (ne_eqb tag 0x10 c.if-tag-eq-LOOKUP.false, ne_eqb tag 0x11 c.if-tag-eq-FREQUENCIES.false, ne_eqb tag 0x12 c.if-tag-eq-BITS.false, ne_eqb tag 0x13 c.if-tag-eq-ORDERS.false, ne_eqb tag 0x14 c.if-tag-eq-COEFFICIENTS.false) refl
