@@ -1,4 +1,6 @@
 // Whole frames for a host in another language: slices and numbers only.
+#![tactic(auto)]
+
 ghost use Rattle.std.specs.Prelude.{◌≡◌, cond, ◌/◌, length};
 ghost use Rattle.common.specs.Flat.{flat_lookup, flat_rows, flat_bits, flat_orders};
 ghost use Rattle.common.specs.Tables.{tables_pass};

@@ -1,6 +1,5 @@
 -- What is left of the lines, over the buffer as it is now, makes what the whole asks.
 -- Assumes nothing.
-use Prim.Native.Nat.{◌-◌}
 use native.Mathlib.Omega.{arith}
 use Rattle.residual_data.proofs.Lines.{same_line}
 use Rattle.frame_text.proofs.Laid.{laying-start, laying-turn, laying-end}

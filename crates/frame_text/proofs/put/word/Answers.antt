@@ -1,6 +1,5 @@
 -- What is left of the word, over the buffer as it is now, makes what the whole asks.
 -- Assumes nothing.
-use Prim.Native.Nat.{◌-◌}
 use native.Mathlib.Omega.{arith}
 use lib.ListN.{drop_of_length-le}
 use Rattle.frame_text.proofs.Laid.{laying-start, laying-turn, laying-end, next_one}
