@@ -1,4 +1,6 @@
 // The dump, step by step: what is held between two fields, and what a step prints. How input and output arrive is the program's.
+#![tactic(auto)]
+
 ghost use Rattle.std.specs.Prelude.{◌≡◌};
 ghost use Rattle.dumping.specs.Dump.{started};
 
@@ -11,7 +13,7 @@ use recording::reader::Before;
 pub const DUMP_MOST: usize = 65536;
 
 // What came before, the configuration, and how many frames there were.
-#[derive(Drop)]
+#[derive(Clone, Copy)]
 pub struct State {
     pub before: Before,
     pub configuration: Configuration,
@@ -19,7 +21,7 @@ pub struct State {
 }
 
 // Where the next step is, if there is one.
-#[derive(Drop)]
+#[derive(Clone, Copy)]
 pub enum Onward {
     At(usize),
     End,
@@ -27,7 +29,7 @@ pub enum Onward {
 }
 
 // A step's answer: the length of its text, where the next one is, and the state behind it.
-#[derive(Drop)]
+#[derive(Clone, Copy)]
 pub struct Stepped {
     pub text: usize,
     pub next: Onward,
