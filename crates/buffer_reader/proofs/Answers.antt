@@ -1,6 +1,6 @@
 -- What each read answers, case by case: which refusal by which fact, and the value where none holds. Later proofs go by these.
 -- A refusal depends on the length, the cursor and the width alone, and a value on the places read alone. Assumes nothing.
-use Prim.Native.Nat.{ℕ, ◌+◌, ◌/◌, ◌%◌, ◌≤◌, ◌<◌}
+use Prim.Native.Nat.{ℕ, ◌+◌, ◌/◌, ◌≤◌, ◌<◌}
 use mathlib.Core.Path.{◌≡◌, refl}
 use mathlib.Core.Bool.{true, false, not}
 use mathlib.Core.List.{List}

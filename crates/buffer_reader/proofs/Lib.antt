@@ -6,3 +6,4 @@ pub mod Unique
 pub mod Steps
 pub mod Roomy
 pub mod Readers
+pub mod Held

@@ -5,10 +5,10 @@ use mathlib.Core.Path.{◌≡◌, refl, sym, ap, subst}
 use mathlib.Core.Bool.{Bool, true, false, cond}
 use mathlib.Core.List.{List}
 use native.Mathlib.Omega.{arith}
-use borrow.Author.Tests.{le-ltb, lt-leb}
+use borrow.Author.Tests.{le-ltb}
 use lib.ListN.{length}
 use Rattle.common.specs.Reply.{Step, Reply, Answer, accepted, refused, given, and_then, within}
-use Rattle.buffer_reader.specs.Reads.{listed, bytes_wanted, field_beyond, bit_beyond}
+use Rattle.buffer_reader.specs.Reads.{listed, bytes_wanted, field_beyond}
 use Rattle.buffer_reader.specs.Steps.{Reading, found, next, refusing, if_present, field_in, flag_in, as_number}
 use Rattle.buffer_reader.specs.declared.Cursor.{Cursor}
 use Rattle.buffer_reader.proofs.Answers.{bits-taken, bit-there, bit-taken}

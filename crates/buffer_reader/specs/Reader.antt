@@ -1,6 +1,6 @@
 -- Document 01, "Modules in port order", 1: "a reader that holds the frame and both cursors". Each read is the cursor's own; it moves
 -- the reader, or refuses and leaves it.
-use Rattle.std.specs.Prelude.{ℕ, List}
+use Rattle.std.specs.Prelude.{ℕ}
 use Rattle.common.specs.Reply.{Answer, accepted, refused}
 use Rattle.buffer_reader.specs.Reads.{take_byte, take_three, take_bits, reply_of}
 use Rattle.buffer_reader.specs.Steps.{Reading, take_flag}

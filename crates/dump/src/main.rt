@@ -1,25 +1,31 @@
 // Dumps the recording on standard input: tagged fields in, lines of text out. It takes no arguments.
-ghost use Rattle.io.specs.Counts.{IsPrefixLen};
+#![tactic(auto)]
+
+ghost use Rattle.dump_io.specs.Streams.{IsPrefixLen};
 
 use dump_io::inner::Input;
-use libc::{STDIN_FILENO, STDOUT_FILENO};
+use std::io::{Error, ErrorKind};
+
+// A line on standard error: what failed, and why. Where that can not be written either, nobody is left to tell.
+fn fail(rt: &impl Eprint, what: &str, why: Error) {
+    let _ = eprintln!(rt; "{what}: {why}");
+}
 
 // A reader of the text that went away is no failure to tell of.
-fn dump(input: &[u8], n: usize)
+fn dump(rt: &HostRuntime, input: &[u8], n: usize)
     requires { IsPrefixLen n input.now }
 {
-    if dump_io::inner::dump(STDOUT_FILENO, &input[..n]) {
-        return;
-    }
-    if os::errno() != libc::EPIPE {
-        os::fail(b"standard output");
+    if let Err(why) = dump_io::inner::dump(&mut rt.stdout(), &input[..n]) {
+        if why.kind() != ErrorKind::BrokenPipe {
+            fail(rt, "standard output", why);
+        }
     }
 }
 
-fn main() {
+fn main(rt: HostRuntime) {
     let mut input = dump_io::inner::room();
-    match dump_io::inner::take(STDIN_FILENO, &mut input) {
-        Input::Failed => os::fail(b"standard input"),
-        Input::Bytes(n) => dump(&input, n),
+    match dump_io::inner::take(&mut rt.stdin(), &mut input) {
+        Input::Failed(why) => fail(&rt, "standard input", why),
+        Input::Bytes(n) => dump(&rt, &input, n),
     }
 }

@@ -1,1 +1,3 @@
 pub mod Turns
+pub mod Taken
+pub mod Told

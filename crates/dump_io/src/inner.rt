@@ -1,14 +1,21 @@
-// Input up to a buffer's length, and the dump's steps written one after the other. What is read or written no contract can say.
-ghost use Rattle.std.specs.Prelude.{◌≡◌, ◌-◌, ◌≤◌, length};
-ghost use Rattle.dump_io.specs.Private.{Within, Few, Standing, Further};
+// Input up to a buffer's length, and the dump's steps written one after the other.
+ghost use Rattle.std.specs.Prelude.{◌≡◌, ◌-◌, ◌≤◌, suc, length, take, IfOk, OnOk};
+ghost use Rattle.std.specs.Io.KnownBytes.{Appends};
+ghost use Rattle.common.specs.Tables.{Tables};
+ghost use Rattle.dumping.specs.Dump.{started, dump_text};
+ghost use Rattle.dumping.specs.Steps.{step_at, steps_text};
+ghost use Rattle.dump_io.specs.Streams.{Within, IsFirst};
+ghost use Rattle.dump_io.specs.Private.{Few, IsNext, Standing, Further, Leads, held};
 
 use dumping::{Onward, State};
+use std::io;
+use std::io::{Error, ErrorKind, Read, Write};
 
-// How many bytes there are at the buffer's front; or the input could not be read.
-#[derive(Drop)]
+// How many bytes there are at the buffer's front; or why the input could not be read.
+#[derive(Clone, Copy)]
 pub enum Input {
     Bytes(usize),
-    Failed,
+    Failed(Error),
 }
 
 // Room for the bytes that a dump can depend on: whether there is one behind the first 65,536, and no more.
@@ -19,25 +26,27 @@ pub fn room() -> [u8; 65537]
 }
 
 // One read behind the bytes that are there: none at the input's end.
-fn more(fd: i32, buf: &mut [u8], done: usize) -> Input
+fn more<R: Read>(from: &mut R, buf: &mut [u8], done: usize) -> Input
     requires { done ≤ length buf.old }
-    ensures { Few result (length buf.old - done) }
+    ensures few { Few result (length buf.old - done) }
+    ensures front { take done buf.new ≡ take done buf.old }
+    ensures next { IsNext (R.remaining from.old) (R.remaining from.new) done result buf.new }
 {
-    let got = libc::read(fd, &mut buf[done..]);
-    if got < 0 {
-        return Input::Failed;
+    match from.read(&mut buf[done..]) {
+        Ok(n) => Input::Bytes(n),
+        Err(why) => Input::Failed(why),
     }
-    Input::Bytes(io::count(got, &buf[done..]))
 }
 
 // Reads to the input's end, or until the buffer is full.
-pub fn take(fd: i32, buf: &mut [u8]) -> Input
-    ensures { Within result buf.new }
+pub fn take<R: Read>(from: &mut R, buf: &mut [u8]) -> Input
+    ensures within { Within result buf.new }
+    ensures first { IsFirst (R.remaining from.old) result buf.new }
 {
     let mut done = 0;
     while done < buf.len() {
-        match more(fd, buf, done) {
-            Input::Failed => return Input::Failed,
+        match more(from, buf, done) {
+            Input::Failed(why) => return Input::Failed(why),
             Input::Bytes(n) => {
                 if n == 0 {
                     return Input::Bytes(done);
@@ -49,24 +58,26 @@ pub fn take(fd: i32, buf: &mut [u8]) -> Input
     Input::Bytes(done)
 }
 
-// Where the dump stands: the next offset, what is held there, whether it goes on, and whether all was written so far.
-#[derive(Drop)]
+// Where the dump stands: the next offset, what is held there, and whether it goes on. All was written so far.
+#[derive(Clone, Copy)]
 struct Place {
     offset: usize,
     state: State,
     going: bool,
-    written: bool,
 }
 
-fn put(fd: i32, text: &[u8], n: usize) -> bool {
+// A text that has no room in its buffer is not written.
+fn put<W: Write>(to: &mut W, text: &[u8], n: usize) -> io::Result<()>
+    ensures { OnOk result ((n ≤ length text.now) × Appends (W.contents to.old) (W.contents to.new) (take n text.now)) }
+{
     if text.len() < n {
-        return false;
+        return Err(Error::new(ErrorKind::WriteZero, "a text has no room"));
     }
-    io::write_all(fd, &text[..n])
+    to.write_all(&text[..n])
 }
 
-fn turn(
-    fd: i32,
+fn turn<W: Write>(
+    to: &mut W,
     input: &[u8],
     place: Place,
     lookup: &mut [u8],
@@ -75,9 +86,15 @@ fn turn(
     orders: &mut [u16],
     coefficients: &mut [u16],
     text: &mut [u8],
-) -> Place
+) -> io::Result<Place>
     requires { Standing place }
-    ensures { Further place result (length input.now) }
+    ensures further { IfOk result (λ next. Further place next (length input.now)) }
+    ensures written { let before : Tables = record { lookup = lookup.old; frequencies = frequencies.old; bits = bits.old; orders = orders.old; coefficients = coefficients.old } in
+        OnOk result (Appends (W.contents to.old) (W.contents to.new) (step_at (held place before) input.now place.offset).text) }
+    ensures leads { let before : Tables = record { lookup = lookup.old; frequencies = frequencies.old; bits = bits.old; orders = orders.old; coefficients = coefficients.old } in
+        let after : Tables = record { lookup = lookup.new; frequencies = frequencies.new; bits = bits.new; orders = orders.new; coefficients = coefficients.new } in
+        let s = step_at (held place before) input.now place.offset in
+        IfOk result (λ next. Leads s.next s.held next after) }
 {
     let offset = place.offset;
     let before = place.state;
@@ -92,33 +109,30 @@ fn turn(
         coefficients,
         text,
     );
-    let written = put(fd, text, step.text);
+    put(to, text, step.text)?;
     let next = step.next;
     let state = step.state;
     match next {
-        Onward::At(to) => Place {
-            offset: to,
+        Onward::At(offset) => Ok(Place {
+            offset,
             state,
-            going: written,
-            written,
-        },
-        Onward::End => Place {
+            going: true,
+        }),
+        Onward::End => Ok(Place {
             offset,
             state: before,
             going: false,
-            written,
-        },
-        Onward::Stop => Place {
+        }),
+        Onward::Stop => Ok(Place {
             offset,
             state: before,
             going: false,
-            written,
-        },
+        }),
     }
 }
 
-fn run(
-    fd: i32,
+fn run<W: Write>(
+    to: &mut W,
     input: &[u8],
     lookup: &mut [u8],
     frequencies: &mut [u16],
@@ -126,16 +140,18 @@ fn run(
     orders: &mut [u16],
     coefficients: &mut [u16],
     text: &mut [u8],
-) -> bool {
+) -> io::Result<()>
+    ensures { let before : Tables = record { lookup = lookup.old; frequencies = frequencies.old; bits = bits.old; orders = orders.old; coefficients = coefficients.old } in
+        OnOk result (Appends (W.contents to.old) (W.contents to.new) (steps_text (suc (length input.now)) (record { state = started; tables = before }) input.now 0)) }
+{
     let mut place = Place {
         offset: 0,
         state: State::start(),
         going: true,
-        written: true,
     };
     while place.going {
         place = turn(
-            fd,
+            to,
             input,
             place,
             lookup,
@@ -144,21 +160,23 @@ fn run(
             orders,
             coefficients,
             text,
-        );
+        )?;
     }
-    place.written
+    Ok(())
 }
 
-// Writes the dump of an input; whether all of it was written.
-pub fn dump(fd: i32, input: &[u8]) -> bool {
+// Writes the dump of an input; on an error a part of it may be written.
+pub fn dump<W: Write>(to: &mut W, input: &[u8]) -> io::Result<()>
+    ensures { OnOk result (Appends (W.contents to.old) (W.contents to.new) (dump_text input.now)) }
+{
     let mut lookup = [0u8; 4096];
     let mut frequencies = [0u16; 1088];
     let mut bits = [0u16; 1088];
     let mut orders = [0u16; 16];
     let mut coefficients = [0u16; 136];
-    let mut text = io::large_buffer();
+    let mut text = [0u8; 65536];
     run(
-        fd,
+        to,
         input,
         &mut lookup,
         &mut frequencies,

@@ -1,2 +1,4 @@
-// A recording taken from a descriptor, and its dump written to one: what the two programs share.
+// A recording taken from a reader, and its dump written to a writer: what the two programs share.
+#![tactic(auto)]
+
 pub mod inner;

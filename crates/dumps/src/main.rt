@@ -1,50 +1,67 @@
 // Dumps the recordings that its arguments name, one after the other, each behind a line with its name.
-ghost use Rattle.io.specs.Counts.{IsPrefixLen};
+#![tactic(auto)]
+
+ghost use Rattle.dump_io.specs.Streams.{IsPrefixLen};
 
 use dump_io::inner::Input;
-use libc::STDOUT_FILENO;
+use std::env::FillError;
+use std::fs;
+use std::io::{Error, ErrorKind};
+use std::rt::{Env, Files};
 
-fn title(name: &[u8]) {
-    io::write_all(STDOUT_FILENO, b"== ");
-    io::write_all(STDOUT_FILENO, name);
-    io::write_all(STDOUT_FILENO, b"\n");
+// A line on standard error: what failed, and why. Where that can not be written either, nobody is left to tell.
+fn fail(rt: &impl Eprint, what: &str, why: Error) {
+    let _ = eprintln!(rt; "{what}: {why}");
 }
 
-fn dump(input: &[u8], n: usize)
+// What can not be written here, the dump behind it can not be either, and tells of it.
+fn title(rt: &impl Print, name: &str) {
+    let _ = println!(rt; "== {name}");
+}
+
+fn dump(rt: &HostRuntime, input: &[u8], n: usize)
     requires { IsPrefixLen n input.now }
 {
-    if !dump_io::inner::dump(STDOUT_FILENO, &input[..n]) {
-        os::fail(b"standard output");
+    if let Err(why) = dump_io::inner::dump(&mut rt.stdout(), &input[..n]) {
+        fail(rt, "standard output", why);
     }
 }
 
-fn one(name: &[u8], input: &mut [u8]) {
-    let fd = os::open_read(name);
-    if fd < 0 {
-        os::fail(name);
-        return;
-    }
-    let got = dump_io::inner::take(fd, input);
-    libc::close(fd);
-    title(name);
-    match got {
-        Input::Failed => os::fail(name),
-        Input::Bytes(n) => dump(input, n),
-    }
-}
-
-fn each(name: &mut [u8], input: &mut [u8]) {
-    let count = os::arg_count();
-    let mut i = 1;
-    while i < count {
-        let n = os::arg(i, name);
-        one(&name[..n], input);
-        i += 1;
+fn one(rt: &HostRuntime, name: &str, input: &mut [u8]) {
+    match fs::open(rt, name) {
+        Err(why) => fail(rt, name, why),
+        Ok(mut file) => {
+            let got = dump_io::inner::take(&mut file, input);
+            drop(file);
+            title(rt, name);
+            match got {
+                Input::Failed(why) => fail(rt, name, why),
+                Input::Bytes(n) => dump(rt, input, n),
+            }
+        }
     }
 }
 
-fn main() {
+// A name is text, and has no more bytes than a path may have.
+fn named(rt: &HostRuntime, name: &[u8], input: &mut [u8]) {
+    match std::str::from_utf8(name) {
+        Ok(text) => one(rt, text, input),
+        Err(_) => fail(rt, "an argument", Error::from(ErrorKind::InvalidFilename)),
+    }
+}
+
+fn each(rt: &HostRuntime, name: &mut [u8], input: &mut [u8]) {
+    for i in 1..usize::MAX {
+        match rt.arg(i, name) {
+            Ok(n) => named(rt, &name[..n], input),
+            Err(FillError::TooLong) => one(rt, "", input),
+            Err(FillError::NotPresent) => return,
+        }
+    }
+}
+
+fn main(rt: HostRuntime) {
     let mut input = dump_io::inner::room();
-    let mut name = io::buffer();
-    each(&mut name, &mut input);
+    let mut name = [0u8; 4096];
+    each(&rt, &mut name, &mut input);
 }

@@ -5,3 +5,4 @@ pub mod Renormal
 pub mod Appends
 pub mod Answers
 pub mod Unique
+pub mod Beside

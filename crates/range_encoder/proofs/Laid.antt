@@ -21,7 +21,7 @@ use Rattle.buffer_writer.proofs.Back.{top-keeps}
 use Rattle.range_decoder.specs.Decoder.{start_decoder}
 use Rattle.range_encoder.specs.Interval.{Sent, cumulative_of, frequency_of, whole, behind}
 use Rattle.range_encoder.specs.Encoder.{start_encoder, shifts_of, symbol_added, turn, encoded, encoded_bytes, reserved_of}
-use Rattle.range_encoder.specs.Finish.{finish_bytes, finish_last, finish_bits, with_own}
+use Rattle.range_encoder.specs.Finish.{finish_bytes, with_own}
 use Rattle.range_encoder.specs.Runs.{AllPass, more, state_behind, bytes_behind, own_bytes, own_last, own_bits, decode_all}
 use Rattle.range_encoder.specs.Private.{Fits, Sound}
 use Rattle.range_encoder.specs.Theory.{decoded_as, Begins, laid_behind, written, Agrees, Kept}

@@ -19,7 +19,7 @@ ghost use Rattle.vectors.specs.Place.{Parts};
 
 use record::{Record, Taken};
 use std::io;
-use std::io::Read;
+use std::io::{ErrorKind, Read};
 use tally::Tally;
 
 // One record: this code's answer beside the one that is expected. The first that differs is said at once.
@@ -84,12 +84,7 @@ fn turn<R: Read>(
 }
 
 // A loop has to end, and nothing says that an input does: the turns are counted down from a number that no run uses up.
-fn run<R: Read>(
-    rt: &impl Print,
-    from: &mut R,
-    buf: &mut [u8],
-    lent: &mut [u8],
-) -> io::Result<Tally>
+fn run<R: Read>(rt: &impl Print, from: &mut R, buf: &mut [u8], lent: &mut [u8]) -> io::Result<Tally>
     requires { (length buf.old ≡ 65536) × (length lent.old ≡ 65536) }
 {
     let mut tally = Tally::new();
@@ -101,9 +96,17 @@ fn run<R: Read>(
     Ok(tally)
 }
 
-fn main(rt: HostRuntime) -> io::Result<()> {
+fn replay_all(rt: &HostRuntime) -> io::Result<()> {
     let mut buf = [0u8; 65536];
     let mut lent = [0u8; 65536];
-    let tally = run(&rt, &mut rt.stdin(), &mut buf, &mut lent)?;
-    report::report(&rt, tally)
+    let tally = run(rt, &mut rt.stdin(), &mut buf, &mut lent)?;
+    report::report(rt, tally)
+}
+
+// A reader of the text that went away is no failure to tell of.
+fn main(rt: HostRuntime) -> io::Result<()> {
+    match replay_all(&rt) {
+        Err(why) if why.kind() == ErrorKind::BrokenPipe => Ok(()),
+        done => done,
+    }
 }

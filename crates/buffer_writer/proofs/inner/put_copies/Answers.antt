@@ -10,12 +10,11 @@ pub loop-left-init : goal.loop-left-init
 loop-left-init c = (refl, refl, refl)
 
 pub loop-left-preserved : goal.loop-left-preserved
-loop-left-preserved c =
-    (
-      omega arith,
-      rw length-set c.loop-left.invariant.1,
-      sym (copies-turn c.loop-left.buf c.loop-left.at c.args.byte c.loop-left.left c.loop-left-test.true) ∙ c.loop-left.invariant.2,
-    )
+loop-left-preserved c = (
+  omega arith,
+  rw length-set c.loop-left.invariant.1,
+  sym (copies-turn c.loop-left.buf c.loop-left.at c.args.byte c.loop-left.left c.loop-left-test.true) ∙ c.loop-left.invariant.2,
+)
 
 pub shape_of-buf : goal.shape_of-buf
 shape_of-buf c = c.loop-left.invariant.1

@@ -13,12 +13,11 @@ pub put_bit-requires : goal.put_bit-requires
 put_bit-requires c = (omega arith, omega arith)
 
 pub loop-left-preserved : goal.loop-left-preserved
-loop-left-preserved c =
-    (
-      omega arith,
-      rw (c.put_bit.ensures, put-length c.loop-left.buf c.loop-left.at (c.loop-left.rest % 2)) c.loop-left.invariant.1,
-      rw (c.put_bit.ensures, ← put-turn c.loop-left.buf c.loop-left.at c.loop-left.rest c.loop-left.left c.loop-left-test.true) c.loop-left.invariant.2,
-    )
+loop-left-preserved c = (
+  omega arith,
+  rw (c.put_bit.ensures, put-length c.loop-left.buf c.loop-left.at (c.loop-left.rest % 2)) c.loop-left.invariant.1,
+  rw (c.put_bit.ensures, ← put-turn c.loop-left.buf c.loop-left.at c.loop-left.rest c.loop-left.left c.loop-left-test.true) c.loop-left.invariant.2,
+)
 
 pub shape_of-buf : goal.shape_of-buf
 shape_of-buf c = c.loop-left.invariant.1

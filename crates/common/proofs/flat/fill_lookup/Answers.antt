@@ -1,6 +1,6 @@
 -- `flat::fill_lookup` meets its contract: the entries before place i are the flat ones, and a turn adds the one at i.
 -- Assumes nothing.
-use Prim.Native.Nat.{◌-◌, ◌%◌}
+use Prim.Native.Nat.{◌%◌}
 use native.Mathlib.Omega.{arith}
 use lib.ListN.{length-set}
 use Rattle.common.proofs.Fills.{fill_none, fill_one, fill-all}
@@ -13,8 +13,7 @@ pub loop-i-smaller : goal.loop-i-smaller
 loop-i-smaller c = simp length-set (omega arith)
 
 pub loop-i-preserved : goal.loop-i-preserved
-loop-i-preserved c =
-    (
+loop-i-preserved c = (
   simp length-set (omega arith),
   simp length-set (omega arith),
   fill_one (λ k. k % 64) _ _ c.loop-i-test.true c.loop-i.invariant.2,

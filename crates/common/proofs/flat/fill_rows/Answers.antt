@@ -1,6 +1,5 @@
 -- `flat::fill_rows` meets its contract: the entries before place i are those of the rows, and a turn adds the one at i.
 -- Assumes nothing.
-use Prim.Native.Nat.{◌-◌}
 use native.Mathlib.Omega.{arith}
 use lib.ListN.{length-set}
 use Rattle.common.specs.Flat.{in_rows}
@@ -17,8 +16,7 @@ pub loop-i-smaller : goal.loop-i-smaller
 loop-i-smaller c = simp length-set (omega arith)
 
 pub loop-i-preserved : goal.loop-i-preserved
-loop-i-preserved c =
-    (
+loop-i-preserved c = (
   simp length-set (omega arith),
   simp length-set (omega arith),
   rw c.in_rows.ensures (fill_one (in_rows _ _ _) _ _ c.loop-i-test.true c.loop-i.invariant.2),

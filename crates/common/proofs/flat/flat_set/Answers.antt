@@ -1,9 +1,5 @@
 -- `flat::flat_set` meets its contract: each buffer holds what its one call of a filling loop left there.
 -- Assumes nothing.
-use Rattle.common.proofs.flat.flat_set.Reads as reads
-use Rattle.common.proofs.flat.flat_set.Lts as lts
-use Rattle.common.proofs.flat.fill_lookup.Reads as fill-lookup-reads
-use Rattle.common.proofs.flat.fill_rows.Reads as fill-rows-reads
 use Rattle.common.proofs.flat.flat_set.Goals as goal
 
 pub returns : goal.returns

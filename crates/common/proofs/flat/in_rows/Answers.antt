@@ -1,8 +1,6 @@
 -- `flat::in_rows` meets its contract: the place within its row decides.
 -- Assumes nothing.
 use borrow.Author.Tests.{eq-eqb, ne_eqb}
-use Rattle.common.proofs.flat.in_rows.Reads as reads
-use Rattle.common.proofs.flat.in_rows.Lts as lts
 use Rattle.common.proofs.flat.in_rows.Goals as goal
 
 pub returns-then-i-width-eq0 : goal.returns-then-i-width-eq0

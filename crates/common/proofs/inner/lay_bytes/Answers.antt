@@ -1,6 +1,5 @@
 -- What is left to lay, over the slice as it is now, makes what the whole asks; the loop ends where either list does.
 -- Assumes nothing.
-use Prim.Native.Nat.{◌-◌}
 use native.Mathlib.Omega.{arith}
 use lib.ListN.{length-set}
 use Rattle.common.proofs.Laid.{copying-start, copying-turn, copying-end, copying-full}

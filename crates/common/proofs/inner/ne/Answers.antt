@@ -3,8 +3,6 @@
 use mathlib.Core.Path.{◌≡◌, refl}
 use native.Mathlib.Omega.{arith}
 use Rattle.common.proofs.Configurations.{ne-long, ne-short}
-use Rattle.common.proofs.inner.ne.Reads as reads
-use Rattle.common.proofs.inner.ne.Lts as lts
 use Rattle.common.proofs.inner.ne.Goals as goal
 
 pub returns-then-duration-eq0 : goal.returns-then-duration-eq0

@@ -1,6 +1,5 @@
 -- `tables::lookup_passes` meets its contract: past the size, what is left to judge behind place i is what the whole asks.
 -- Assumes nothing.
-use Prim.Native.Nat.{◌-◌}
 use mathlib.Core.Path.{sym, ◌∙◌}
 use native.Mathlib.Omega.{arith}
 use borrow.Author.Tests.{ne_eqb}
@@ -17,8 +16,7 @@ pub returns-then-lookup-i-gt63 : goal.returns-then-lookup-i-gt63
 returns-then-lookup-i-gt63 c = sym (most-over 63 _ _ c.loop-i-test.true (omega (arith, c.if-lookup-i-gt63.true))) ∙ c.loop-i.invariant.1
 
 pub loop-i-preserved : goal.loop-i-preserved
-loop-i-preserved c =
-    (
+loop-i-preserved c = (
   omega arith,
   sym (most-next 63 _ _ c.loop-i-test.true (omega (arith, c.if-lookup-i-gt63.false))) ∙ c.loop-i.invariant.1,
 )

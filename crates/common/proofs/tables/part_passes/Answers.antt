@@ -4,9 +4,6 @@ use mathlib.Core.Path.{sym, ◌∙◌}
 use native.Mathlib.Nat.{lt_of_le_of_lt, mul-le-mul}
 use lib.Dec.{lit<}
 use Rattle.common.proofs.Rows.{part-sized, part-unsized}
-use Rattle.common.proofs.tables.part_passes.Reads as reads
-use Rattle.common.proofs.tables.part_passes.Lts as lts
-use Rattle.common.proofs.tables.rows_pass.Reads as rows-pass-reads
 use Rattle.common.proofs.tables.part_passes.Goals as goal
 
 pub overflow_mul-rows : goal.overflow_mul-rows

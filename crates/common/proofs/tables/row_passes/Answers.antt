@@ -1,6 +1,5 @@
 -- `tables::row_passes` meets its contract: what is left to judge behind place i, with the total so far, is what the whole row
 -- asks. The total stays at most 1,024, so it never overflows, and an entry that passes what is left ends the run.
-use Prim.Native.Nat.{◌-◌}
 use mathlib.Core.Path.{sym, ◌∙◌}
 use native.Mathlib.Omega.{arith}
 use Rattle.common.proofs.Rows.{row-start, row-end, row_zero, row_next, row-over}
@@ -18,8 +17,7 @@ returns-then-total-frequency c =
     c.loop-i.invariant.2
 
 pub loop-i-preserved : goal.loop-i-preserved
-loop-i-preserved c =
-    (
+loop-i-preserved c = (
   omega arith,
   omega arith,
   sym (row_next _ _ _ c.loop-i-test.true c.if-frequency-eq0.false) ∙

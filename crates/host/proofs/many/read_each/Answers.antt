@@ -33,8 +33,7 @@ slice_bounds-read_one-end c = omega (arith, fits c)
 
 pub read_one-read-requires : goal.read_one-read-requires
 read_one-read-requires c =
-    let a = c.args in
-    (
+    let a = c.args in (
       ap (λ (n : ℕ). frame_lines a.configuration n) (part_length c.loop-left.at a.bytes a.frames.now (fits (goal.at.read_one-read-requires c).In-loop-left)) ∙ c.requires.0,
       c.requires.1,
       omega (arith, c.loop-left.invariant.1, c.requires.2),

@@ -1,7 +1,7 @@
 -- `row::any` meets its contract: so far as it has come, the sum brings the cumulative to the one there.
 -- Assumes nothing.
 use native.Mathlib.Omega.{arith}
-use Prim.Native.Nat.{◌+◌, ◌-◌}
+use Prim.Native.Nat.{◌+◌}
 use mathlib.Core.Path.{◌≡◌, refl}
 use native.Mathlib.Nat.{add-zero}
 use Rattle.common.specs.Tables.{cumulative}

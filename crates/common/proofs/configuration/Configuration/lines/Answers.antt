@@ -5,10 +5,6 @@ use Rattle.common.specs.Reply.{accepted}
 use mathlib.Core.Bool.{true}
 use Rattle.common.specs.Configuration.{configuration_passes}
 use Rattle.common.proofs.Configurations.{fs-limit, duration-limit, lines-passed, lines-refused}
-use Rattle.common.proofs.configuration.Configuration.lines.Reads as reads
-use Rattle.common.proofs.configuration.Configuration.lines.Lts as lts
-use Rattle.common.proofs.configuration.Configuration.passes.Reads as passes-reads
-use Rattle.common.proofs.inner.ne.Reads as ne-reads
 use Rattle.common.proofs.configuration.Configuration.lines.Goals as goal
 
 pub ne-requires : goal.ne-requires
