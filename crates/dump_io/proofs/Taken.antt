@@ -1,6 +1,6 @@
 -- What a reader gave stands at the buffer's front: at the reader's end it is all that there was, and else as much as there is room
 -- for. Assumes nothing.
-use Rattle.std.proofs.Common.{◌≡◌, refl, sym, ap, ◌∙◌, subst, ℕ, ◌+◌, ◌≤◌, List, ◌++◌, length, take, drop, arith, append-nil, length-take-le, Option, None, Some}
+use Rattle.std.proofs.Common.{◌≡◌, sym, ap, ◌∙◌, subst, ℕ, ◌+◌, ◌≤◌, List, ◌++◌, length, take, drop, arith, append-nil, length-take-le, Option, None, Some}
 use lib.Seq.{take-add, take-append-le, take_all}
 use Rattle.std.specs.Io.KnownBytes.{Consumes, IsAtEnd}
 use Rattle.std.proofs.KnownBytes.{Consumes-trans}

@@ -4,10 +4,13 @@ use lib.Seq.{sets, sets-eq, length-sets, take_at}
 use Rattle.std.specs.Io.KnownBytes.{Appends}
 use Rattle.std.proofs.KnownBytes.{Appends-nil, Appends-trans}
 use Rattle.common.specs.Tables.{Tables}
+use Rattle.dumping.specs.Dump.{started}
 use Rattle.dumping.specs.Steps.{Step, step_at, onward, steps_text}
 use Rattle.dumping.specs.declared.Onward.{Onward}
 use Rattle.dumping.specs.declared.Onward.TheVariants.{At, End, Stop}
-use Rattle.dump_io.specs.Private.{Leads, Further, held}
+use Rattle.dumping.specs.declared.State.{State}
+use Rattle.dumping.proofs.Theorems.{step-onward}
+use Rattle.dump_io.specs.Private.{Leads, Standing, Further, held}
 use Rattle.dump_io.specs.declared.inner.Place.{Place}
 
 -- a text that has room stands at the front of its buffer
@@ -22,6 +25,12 @@ text_written a b {n} {now} old text long laid room wrote =
     let there : take n now ≡ text = rw (long, laid) (text_there old text (rw (long, laid) at room)) in
     subst (Appends a b) there wrote
 
+-- a step goes forward, within the input
+pub goes_on : (p : Place) (tables : Tables) (input : List ℕ) (next : Onward) (state : State) (to : ℕ) → Standing p → next ≡ (step_at (held p tables) input p.offset).next → next ≡ At to → state ≡ (step_at (held p tables) input p.offset).held.state → Further p (record { offset = to; state = state; going = true }) (length input)
+goes_on p tables input next state to low stepped e is =
+    let on = step-onward (held p tables) input p.offset to low (sym stepped ∙ e) in
+    record { standing = rw is on.2; forward = λ going. (on.0, on.1) }
+
 -- the texts of as many steps as are left
 abbrev pub to_come : ℕ → Place → Tables → List ℕ → List ℕ
 to_come fuel p tables input = cond p.going (steps_text fuel (held p tables) input p.offset) []
@@ -33,9 +42,9 @@ pub record Told (old new : Option (List ℕ)) (p : Place) (tables : Tables) (inp
   pub written : Appends old new said
   pub rest : whole ≡ said ++ to_come fuel p tables input
 
-pub told_start : (known : Option (List ℕ)) (p : Place) (tables : Tables) (input : List ℕ) → p.offset ≡ 0 → p.going ≡ true → Told known known p tables input (steps_text (suc (length input)) (held p tables) input 0)
-told_start known p tables input at going =
-    record { fuel = suc (length input); said = []; enough = omega (arith, at); written = Appends-nil known; rest = rw (going, at) refl }
+pub told_start : (known : Option (List ℕ)) (p : Place) (tables : Tables) (input : List ℕ) → p.state ≡ started → p.offset ≡ 0 → p.going ≡ true → Told known known p tables input (steps_text (suc (length input)) (record { state = started; tables = tables }) input 0)
+told_start known p tables input state at going =
+    record { fuel = suc (length input); said = []; enough = omega (arith, at); written = Appends-nil known; rest = rw (going, at, state) refl }
 
 pub told_end : (old new : Option (List ℕ)) (p : Place) (tables : Tables) (input whole : List ℕ) → p.going ≡ false → Told old new p tables input whole → Appends old new whole
 told_end old new p tables input whole over t =

@@ -1,5 +1,5 @@
 -- What a test says of a fact: laws by which each `return` of a comparison is answered. Assumes nothing.
-use mathlib.Core.Path.{◌≡◌, refl}
+use mathlib.Core.Path.{refl}
 use mathlib.Core.Bool.{true, false, false≢true}
 use Rattle.vectors.specs.Agreement.{Says}
 

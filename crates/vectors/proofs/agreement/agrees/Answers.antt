@@ -1,6 +1,5 @@
 -- `vectors::agreement::agrees` meets its contract. The invariant: the bytes passed are equal in both, so at the end
 -- all are. The measure is what is left of the length. Assumes nothing.
-use Prim.Native.Nat.{◌-◌}
 use mathlib.Core.Path.{refl, ap}
 use native.Mathlib.Omega.{arith}
 use lib.ListN.{length}

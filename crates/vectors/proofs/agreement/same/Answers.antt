@@ -1,6 +1,5 @@
 -- `vectors::agreement::same` meets its contract. The invariant: the numbers passed are equal in both, so at the end
 -- all are. The measure is how many numbers are left. Assumes nothing.
-use Prim.Native.Nat.{◌-◌}
 use native.Mathlib.Omega.{arith}
 use borrow.Author.Count.{below_more}
 use borrow.Author.Rules.{rules}

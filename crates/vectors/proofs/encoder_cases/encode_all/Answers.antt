@@ -1,6 +1,5 @@
 -- `vectors::encoder_cases::encode_all` meets its contract: each symbol has a share and two bytes of room, so the state stays
 -- sound and within the buffer. The measure is what is left of the list. Assumes nothing.
-use Prim.Native.Nat.{◌-◌}
 use mathlib.Core.Path.{refl}
 use native.Mathlib.Omega.{arith}
 use Rattle.range_encoder.proofs.Carry.{sound-start}
