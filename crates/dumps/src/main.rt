@@ -5,30 +5,26 @@ ghost use Rattle.dump_io.specs.Streams.{IsPrefixLen};
 
 use dump_io::inner::Input;
 use std::env::FillError;
+use std::fs;
 use std::io::{Error, ErrorKind};
 use std::rt::{Env, Files};
-use std::{fs, io};
 
 // A line on standard error: what failed, and why. Where that can not be written either, nobody is left to tell.
 fn fail(rt: &impl Eprint, what: &str, why: Error) {
     let _ = eprintln!(rt; "{what}: {why}");
 }
 
-fn title(rt: &impl Print, name: &str) -> io::Result<()> {
-    println!(rt; "== {name}")
+// What can not be written here, the dump behind it can not be either, and tells of it.
+fn title(rt: &impl Print, name: &str) {
+    let _ = println!(rt; "== {name}");
 }
 
-fn dump(rt: &HostRuntime, name: &str, input: &[u8], n: usize) -> io::Result<()>
+fn dump(rt: &HostRuntime, input: &[u8], n: usize)
     requires { IsPrefixLen n input.now }
 {
-    title(rt, name)?;
-    dump_io::inner::dump(&mut rt.stdout(), &input[..n])
-}
-
-fn refuse(rt: &HostRuntime, name: &str, why: Error) -> io::Result<()> {
-    let titled = title(rt, name);
-    fail(rt, name, why);
-    titled
+    if let Err(why) = dump_io::inner::dump(&mut rt.stdout(), &input[..n]) {
+        fail(rt, "standard output", why);
+    }
 }
 
 fn one(rt: &HostRuntime, name: &str, input: &mut [u8]) {
@@ -37,12 +33,10 @@ fn one(rt: &HostRuntime, name: &str, input: &mut [u8]) {
         Ok(mut file) => {
             let got = dump_io::inner::take(&mut file, input);
             drop(file);
-            let written = match got {
-                Input::Failed(why) => refuse(rt, name, why),
-                Input::Bytes(n) => dump(rt, name, input, n),
-            };
-            if let Err(why) = written {
-                fail(rt, "standard output", why);
+            title(rt, name);
+            match got {
+                Input::Failed(why) => fail(rt, name, why),
+                Input::Bytes(n) => dump(rt, input, n),
             }
         }
     }
