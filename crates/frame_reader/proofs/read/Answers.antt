@@ -34,7 +34,7 @@ returns-then-lines-ne c =
     let a = c.args in
     let t : Tables = (record { lookup = a.lookup.now; frequencies = a.frequencies.now; bits = a.bits.now; orders = a.orders.now; coefficients = a.coefficients.now }) in
     let s = shown-parts a.configuration.reading c.refused-then-lines-ne.result a.lines.now a.lines.now (read_frame a.configuration t (length a.lines.now) a.frame.now)
-    (c.refused-then-lines-ne.ensures a.lines.now ∙ ap (λ r. shown a.configuration.reading r a.lines.now) (sym (count-refused a.configuration t (length a.lines.now) a.frame.now c.in-Encoded.ne (ne-at (goal.at.returns-then-lines-ne c).In-Encoded) (confirmed c.tables_pass.ensures (ap not c.if-not-tables_pass.false)) (lt-ltb (length a.lines.now) c.in-Encoded.ne c.if-lines-ne.true)))) in
+    (c.refused-then-lines-ne.ensures a.lines.now ∙ ap (λ r. shown a.configuration.reading r a.lines.now) (sym (count-refused a.configuration t (length a.lines.now) a.frame.now c.in-Encoded.ne (ne-at (goal.at.returns-then-lines-ne c).In-Encoded) (confirmed c.tables_pass.ensures (ap not c.if-not-tables_pass.false)) (lt-ltb (length a.lines.now) c.in-Encoded.ne (omega (arith, c.if-lines-ne.true)))))) in
     record { outcome = s.0; indices = s.1; residual = s.2; lent = s.3 }
 
 pub read-requires : goal.read-requires

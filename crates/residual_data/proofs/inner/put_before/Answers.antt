@@ -8,7 +8,7 @@ use Rattle.residual_data.proofs.inner.put_before.Goals as goal
 pub returns-then-at-end : goal.returns-then-at-end
 returns-then-at-end c =
     let a = c.args in
-    λ o. cut-full a.buf.now a.at a.end (owned o a.value) c.if-at-end.true
+    λ o. cut-full a.buf.now a.at a.end (owned o a.value) (omega (arith, c.if-at-end.true))
 
 pub returns : goal.returns
 returns c =

@@ -19,7 +19,7 @@ first c = rw (← c.lowest_bit.ensures) (c.put_before-next.ensures (lowest c.arg
 pub returns-then-magnitude-ne1 : goal.returns-then-magnitude-ne1
 returns-then-magnitude-ne1 c =
     let a = c.args in
-    rw (late-alone a.lines.now a.k c.magnitude_at-magnitude.result (told (goal.at.returns-then-magnitude-ne1 c).After-magnitude_at-magnitude) c.if-magnitude-ne1.true) (first (goal.at.returns-then-magnitude-ne1 c).After-put_before-next)
+    rw (late-alone a.lines.now a.k c.magnitude_at-magnitude.result (told (goal.at.returns-then-magnitude-ne1 c).After-magnitude_at-magnitude) (omega (arith, c.if-magnitude-ne1.true))) (first (goal.at.returns-then-magnitude-ne1 c).After-put_before-next)
 
 pub put_before-requires : goal.put_before-requires
 put_before-requires c =
@@ -31,5 +31,5 @@ returns c =
     let a = c.args in
     let second : Cut c.put_before-next.new.buf c.put_before-next.result a.end (owned (late_sign a.k) (minus (line_at a.lines.now a.k)) ∷ []) c.put_before.result c.put_before.new.buf =
     rw (← c.minus_at.ensures.0) (c.put_before.ensures (late_sign a.k)) in
-    rw (late-signed a.lines.now a.k c.magnitude_at-magnitude.result (told (goal.at.returns c).After-magnitude_at-magnitude) c.if-magnitude-ne1.false)
+    rw (late-signed a.lines.now a.k c.magnitude_at-magnitude.result (told (goal.at.returns c).After-magnitude_at-magnitude) (omega (arith, c.if-magnitude-ne1.false)))
     (cut-behind (owned (lowest a.k) (c.magnitude_at-magnitude.result % 2) ∷ []) (owned (late_sign a.k) (minus (line_at a.lines.now a.k)) ∷ []) (omega arith) (first (goal.at.returns c).After-put_before-next) second)

@@ -15,14 +15,14 @@ returns-else-negative c =
     rw c.if-negative.false (held-above a.size (omega arith))
 
 pub overflow_sub-result : goal.overflow_sub-result
-overflow_sub-result c = negated_fits c.args.size c.if-size-ge32768.false
+overflow_sub-result c = negated_fits c.args.size (omega (arith, c.if-size-ge32768.false))
 
 pub returns-then-negative-2 : goal.returns-then-negative-2
 returns-then-negative-2 c =
     let a = c.args in
-    rw c.if-negative-2.true (signed_below a.size c.if-size-ge32768.false)
+    rw c.if-negative-2.true (signed_below a.size (omega (arith, c.if-size-ge32768.false)))
 
 pub returns-else-negative-2 : goal.returns-else-negative-2
 returns-else-negative-2 c =
     let a = c.args in
-    rw c.if-negative-2.false (signed_above a.size c.if-size-ge32768.false)
+    rw c.if-negative-2.false (signed_above a.size (omega (arith, c.if-size-ge32768.false)))
