@@ -1,11 +1,11 @@
 -- A list laid over another from its front: one turn of the loop that lays it, and its two ends.
 -- Assumes nothing.
-use Prim.Native.Nat.{ℕ, suc, ◌+◌, ◌≤◌, ◌<◌}
-use mathlib.Core.Path.{◌≡◌, refl, sym, ◌∙◌}
-use mathlib.Core.List.{List, [], ◌∷◌}
+use Prim.Native.Nat.{ℕ, zero, suc, ◌+◌, ◌≤◌, ◌<◌, min}
+use mathlib.Core.Path.{◌≡◌, refl, sym, ap, ◌∙◌}
+use mathlib.Core.List.{List, [], ◌∷◌, ◌++◌}
 use native.Mathlib.Omega.{arith}
 use native.Mathlib.Numerals.{add-one}
-use lib.ListN.{length, drop, get_or, set, length-set, drop_of_length-le}
+use lib.ListN.{length, take, drop, get_or, set, length-set, drop_of_length-le}
 use lib.Seq.{sets, set_out, drop-cons}
 
 pub sets-past : (vs l : List ℕ) (i : ℕ) → length l ≤ i → sets l i vs ≡ l
@@ -42,3 +42,19 @@ module _ {to₀ from to : List ℕ} {i : ℕ} where
 
   pub copying-full : length to ≤ i → Copying to₀ from to i → to ≡ sets to₀ 0 from
   copying-full h l = sym (sets-past (drop i from) to i h) ∙ l.rest
+
+module _ {A : Type 0} where
+  sets-none : (i : ℕ) (vs : List A) → sets [] i vs ≡ []
+  sets-none i [] = refl
+  sets-none i (v ∷ vs) = sets-none (suc i) vs
+
+  sets-behind : (x : A) (l : List A) (i : ℕ) (vs : List A) → sets (x ∷ l) (suc i) vs ≡ x ∷ sets l i vs
+  sets-behind x l i [] = refl
+  sets-behind x l i (v ∷ vs) = sets-behind x (set l i v) (suc i) vs
+
+  -- laid at once, as far as both are long
+  pub laid-at_once : (to from : List A) (n : ℕ) → n ≡ min (length to) (length from) → take n from ++ drop n to ≡ sets to 0 from
+  laid-at_once [] from n e = let z : n ≡ 0 = omega arith in rw (z, sets-none) refl
+  laid-at_once (x ∷ to) [] n e = let z : n ≡ 0 = omega arith in rw z refl
+  laid-at_once (x ∷ to) (v ∷ from) zero e = absurd (omega arith)
+  laid-at_once (x ∷ to) (v ∷ from) (suc n) e = ap (λ l. v ∷ l) (laid-at_once to from n (omega arith)) ∙ sym (sets-behind v to 0 from)

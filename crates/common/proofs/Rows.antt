@@ -1,18 +1,18 @@
 -- One turn of each check of the table set: what is left to judge at a place, by the entry there and what is left behind it.
 -- Assumes nothing.
 use Prim.Native.Nat.{ℕ, zero, suc, ◌+◌, ◌-◌, ◌*◌, ◌≤◌, ◌<◌}
-use mathlib.Core.Path.{◌≡◌, refl, ap}
+use mathlib.Core.Path.{◌≡◌, refl, sym, ap}
 use mathlib.Core.Bool.{Bool, true, false, ◌&&◌}
 use mathlib.Core.List.{List, [], ◌∷◌}
 use native.Mathlib.Omega.{arith}
 use native.Mathlib.Numerals.{add-one}
-use native.Mathlib.Nat.{zero-add, add-zero, add_assoc, suc-mul, add-sub_cancel_left}
+use native.Mathlib.Nat.{zero-add, add-zero, add_assoc, suc-mul, mul-le-mul_right, add-sub_cancel_left}
 use borrow.Author.Tests.{eq-eqb, ne_eqb, lt-leb, le-leb, leb-true}
 use lib.Dec.{leb, eqb}
 use lib.ListN.{length, get_or, take, drop, drop_of_length-le}
 use lib.Seq.{drop-cons, drop-drop}
 use Rattle.common.specs.Tables.{total, all_at_least, all_at_most, row_passes, rows_pass, lookup_passes, part_passes}
-use Rattle.common.proofs.Bools.{and_left, and_right, and_assoc, and-false}
+use Rattle.common.proofs.Bools.{and_left, and_right, and_both, and_assoc, and-false}
 
 -- what is left to judge of a row when its first entries total t
 abbrev pub row_from : ℕ → List ℕ → Bool
@@ -66,6 +66,20 @@ at_most m [] k e = omega arith
 at_most m (x ∷ xs) zero e = leb-true x m (and_left (leb x m) (all_at_most m xs) e)
 at_most m (x ∷ xs) (suc k) e = at_most m xs k (and_right (leb x m) (all_at_most m xs) e)
 
+most_all : (m : ℕ) (xs : List ℕ) → ((k : ℕ) → k < length xs → get_or xs k 0 ≤ m) → all_at_most m xs ≡ true
+unfolding all_at_most
+most_all m [] h = refl
+most_all m (x ∷ xs) h = and_both (leb x m) (all_at_most m xs) (le-leb x m (h 0 (omega arith))) (most_all m xs (λ k p. h (suc k) (omega arith)))
+
+-- a test that holds exactly where each entry is at most m
+pub most-judged : (m : ℕ) (xs : List ℕ) (b : Bool) → (b ≡ true → (k : ℕ) → k < length xs → get_or xs k 0 ≤ m) → (((k : ℕ) → k < length xs → get_or xs k 0 ≤ m) → b ≡ true) → b ≡ all_at_most m xs
+most-judged m xs true each all = sym (most_all m xs (each refl))
+most-judged m xs false each all = go (all_at_most m xs) refl
+  where
+    go : (c : Bool) → all_at_most m xs ≡ c → false ≡ c
+    go true e = all (λ k h. at_most m xs k e)
+    go false e = refl
+
 rows-turn : (left width : ℕ) (xs : List ℕ) → 0 < left → rows_pass left width xs ≡ (row_passes (take width xs) && rows_pass (left - 1) width (drop width xs))
 unfolding rows_pass
 rows-turn zero width xs h = absurd (omega arith)
@@ -90,6 +104,23 @@ rows_end left width xs h = let e : left ≡ 0 = omega arith in rw e refl
 pub rows-size : (left width : ℕ) → 0 < left → left * width ≡ (left - 1) * width + width
 rows-size zero width h = absurd (omega arith)
 rows-size (suc n) width h = let e : suc n - 1 ≡ n = omega arith in rw (e, suc-mul) refl
+
+-- where row k + 1 begins, and that row k of so many ends within them
+next-place : (k width : ℕ) → (k + 1) * width ≡ k * width + width
+next-place k width = rw (add-one, suc-mul) refl
+
+pub row_fits : (k rows width : ℕ) → k < rows → k * width + width ≤ rows * width
+row_fits k rows width h = rw (← next-place k width) (mul-le-mul_right width (omega arith))
+
+-- row k, with the rows behind it
+module _ (k rows width : ℕ) (xs : List ℕ) (h : k < rows) (passed : Bool) (judged : passed ≡ row_passes (take (k * width + width - k * width) (drop (k * width) xs))) where
+  pub row-stops : passed ≡ false → rows_pass (rows - k) width (drop (k * width) xs) ≡ false
+  row-stops e = rows-stop (rows - k) width (k * width) xs (omega arith) passed judged e
+
+  pub row-goes_on : passed ≡ true → rows_pass (rows - k) width (drop (k * width) xs) ≡ rows_pass (rows - (k + 1)) width (drop ((k + 1) * width) xs)
+  row-goes_on e =
+      let one : rows - (k + 1) ≡ rows - k - 1 = omega arith in
+      rw (one, next-place k width) (rows_next (rows - k) width (k * width) xs (omega arith) passed judged e)
 
 -- the parts of the set, once their sizes are judged
 pub lookup-sized : (xs : List ℕ) → length xs ≡ 4096 → lookup_passes xs ≡ all_at_most 63 xs

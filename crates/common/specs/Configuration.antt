@@ -1,11 +1,9 @@
 -- Document 01, "Configuration and table set", first paragraph: the limits of a configuration, and its encoded lines `ne`.
 use Rattle.std.specs.Prelude.{ℕ, Bool, not, ◌&&◌, [], ◌∷◌, leb, get_or}
-use Rattle.common.specs.Reply.{Answer, accepted, refused, given, and_then, outside_limits, wrong_length}
+use Rattle.common.specs.Reply.{Reply, Answer, accepted, given, and_then, outside_limits, wrong_length}
 use Rattle.common.specs.declared.configuration.Configuration.{Configuration}
-use Rattle.common.specs.declared.configuration.Lines.{Lines}
-use Rattle.common.specs.declared.configuration.Lines.TheVariants.{Encoded, OutsideLimits}
-use Rattle.common.specs.declared.configuration.FrameLines.{FrameLines}
-use Rattle.common.specs.declared.configuration.FrameLines.TheVariants.{Encoded as FrameEncoded, OutsideLimits as FrameOutside, WrongLength}
+use Rattle.common.specs.declared.configuration.ConfigurationError.{ConfigurationError}
+use Rattle.common.specs.declared.configuration.ConfigurationError.TheVariants.{OutsideLimits, WrongLength}
 
 -- `fs_ind` 0..4; duration 0 (10 ms) or 1 (7.5 ms); reading 0 (crate) or 1 (standard)
 abbrev pub configuration_passes : Configuration → Bool
@@ -28,12 +26,7 @@ lines_of c = given (not (configuration_passes c)) outside_limits (accepted (ne c
 abbrev pub frame_lines : Configuration → ℕ → Answer ℕ
 frame_lines c bytes = and_then (lines_of c) (λ n. given (not (length_passes bytes)) (wrong_length bytes) (accepted n))
 
--- what each enum of an answer says
-abbrev pub reply_of : Lines → Answer ℕ
-reply_of (Encoded n) = accepted n
-reply_of OutsideLimits = refused outside_limits
-
-abbrev pub frame_lines_of : FrameLines → Answer ℕ
-frame_lines_of (FrameEncoded n) = accepted n
-frame_lines_of FrameOutside = refused outside_limits
-frame_lines_of (WrongLength bytes) = refused (wrong_length bytes)
+-- document 01's number and values of each refusal
+abbrev pub reply_of : ConfigurationError → Reply
+reply_of OutsideLimits = outside_limits
+reply_of (WrongLength bytes) = wrong_length bytes

@@ -1,6 +1,6 @@
 -- The numbered replies of document 01, "Numbered replies": a refusal is its number with its values, and the step that met it.
--- Every enum of an answer has a `reply_of` that says what it is here, and contracts speak by that.
-use Rattle.std.specs.Prelude.{ℕ, Bool, true, false, cond, ◌&&◌, leb, List, [], ◌∷◌}
+-- Every enum of errors has a `reply_of` that says what each is here, and contracts speak by that.
+use Rattle.std.specs.Prelude.{ℕ, Bool, true, false, cond, ◌&&◌, leb, List, [], ◌∷◌, Result, Ok, Err}
 
 -- "side, start, order (TNS, f), coef (f,k), symbol or bit (pair, level)": the step of the reader that met a refusal 9 to 11
 pub data Step : Type 0 where
@@ -22,6 +22,11 @@ pub record Reply : Type 0 where
 pub data Answer (A : Type 0) : Type 0 where
   accepted : A → Answer A
   refused : Reply → Answer A
+
+-- what a `Result` says, by what its errors say
+abbrev pub answer_by : {A E : Type 0} → (E → Reply) → Result A E → Answer A
+answer_by says (Ok a) = accepted a
+answer_by says (Err e) = refused (says e)
 
 -- "given exactly when": the refusal if the test holds, and otherwise what follows; a chain of these is the order of checks
 abbrev pub given : {A : Type 0} → Bool → Reply → Answer A → Answer A

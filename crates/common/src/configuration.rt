@@ -1,6 +1,7 @@
 // The configuration, and the number of lines that a frame of it encodes.
 ghost use Rattle.std.specs.Prelude.{◌≡◌};
-ghost use Rattle.common.specs.Configuration.{configuration_passes, lines_of, reply_of, frame_lines, frame_lines_of};
+ghost use Rattle.common.specs.Reply.{answer_by};
+ghost use Rattle.common.specs.Configuration.{configuration_passes, lines_of, reply_of, frame_lines};
 
 #[derive(Clone, Copy)]
 pub struct Configuration {
@@ -9,17 +10,9 @@ pub struct Configuration {
     pub reading: usize,
 }
 
-// The number of encoded lines, or refusal 1.
+// Refusals 1 and 2: why a configuration, or a call on a frame of so many bytes, is refused.
 #[derive(Clone, Copy)]
-pub enum Lines {
-    Encoded(usize),
-    OutsideLimits,
-}
-
-// The same for a call on a frame of so many bytes: refusals 1 and 2.
-#[derive(Clone, Copy)]
-pub enum FrameLines {
-    Encoded(usize),
+pub enum ConfigurationError {
     OutsideLimits,
     WrongLength(usize),
 }
@@ -28,36 +21,27 @@ impl Configuration {
     pub fn passes(self) -> bool
         ensures { result ≡ configuration_passes self }
     {
-        if 4 < self.fs_ind {
-            return false;
-        }
-        if 1 < self.duration {
-            return false;
-        }
-        self.reading <= 1
+        self.fs_ind <= 4 && self.duration <= 1 && self.reading <= 1
     }
 
-    pub fn lines(self) -> Lines
-        ensures { reply_of result ≡ lines_of self }
+    // The number of encoded lines, or refusal 1.
+    pub fn lines(self) -> Result<usize, ConfigurationError>
+        ensures { answer_by reply_of result ≡ lines_of self }
     {
-        if self.passes() {
-            Lines::Encoded(crate::inner::ne(self.duration, self.fs_ind))
-        } else {
-            Lines::OutsideLimits
+        if !self.passes() {
+            return Err(ConfigurationError::OutsideLimits);
         }
+        Ok(crate::inner::ne(self.duration, self.fs_ind))
     }
 
-    pub fn frame_lines(self, bytes: usize) -> FrameLines
-        ensures { frame_lines_of result ≡ frame_lines self bytes }
+    // The same for a call on a frame of so many bytes: refusals 1 and 2.
+    pub fn frame_lines(self, bytes: usize) -> Result<usize, ConfigurationError>
+        ensures { answer_by reply_of result ≡ frame_lines self bytes }
     {
-        match self.lines() {
-            Lines::OutsideLimits => FrameLines::OutsideLimits,
-            Lines::Encoded(ne) => {
-                if !crate::inner::length_passes(bytes) {
-                    return FrameLines::WrongLength(bytes);
-                }
-                FrameLines::Encoded(ne)
-            }
+        let ne = self.lines()?;
+        if !crate::inner::length_passes(bytes) {
+            return Err(ConfigurationError::WrongLength(bytes));
         }
+        Ok(ne)
     }
 }

@@ -25,10 +25,8 @@ pub fn flat_set(
 fn fill_lookup(lookup: &mut [u8])
     ensures { lookup.new ≡ flat_lookup (length lookup.old) }
 {
-    let mut i = 0;
-    while i < lookup.len() {
-        lookup[i] = (i % 64) as u8;
-        i += 1;
+    for (i, entry) in lookup.iter_mut().enumerate() {
+        *entry = (i % 64) as u8;
     }
 }
 
@@ -36,16 +34,7 @@ fn fill_rows(part: &mut [u16], width: usize, first: u16, rest: u16)
     requires { 0 < width }
     ensures { part.new ≡ tabulate (in_rows width first rest) 0 (length part.old) }
 {
-    let mut i = 0;
-    while i < part.len() {
-        part[i] = in_rows(width, first, rest, i);
-        i += 1;
+    for (i, entry) in part.iter_mut().enumerate() {
+        *entry = if i % width == 0 { first } else { rest };
     }
-}
-
-fn in_rows(width: usize, first: u16, rest: u16, i: usize) -> u16
-    requires { 0 < width }
-    ensures { result ≡ in_rows width first rest i }
-{
-    if i % width == 0 { first } else { rest }
 }

@@ -21,10 +21,7 @@ pub fn ne(duration: usize, fs_ind: usize) -> usize
 pub fn length_passes(bytes: usize) -> bool
     ensures { result ≡ length_passes bytes }
 {
-    if bytes < 20 {
-        return false;
-    }
-    bytes <= 400
+    20 <= bytes && bytes <= 400
 }
 
 // The floor of the logarithm comes from the leading zero bits, not a float.
@@ -43,23 +40,10 @@ pub fn power(k: usize) -> u32
     1 << k
 }
 
-// A byte as a number: its bound comes with it.
-pub fn wide(byte: u8) -> u32
-    ensures { (result ≡ byte) × (result < 256) }
-{
-    byte as u32
-}
-
-// Bytes laid over a lent slice from its front, as far as both are long.
-pub fn lay_bytes(to: &mut [u8], from: &[u8])
+// A list laid over a lent slice from its front, as far as both are long.
+pub fn lay<T: Copy>(to: &mut [T], from: &[T])
     ensures { to.new ≡ sets to.old 0 from.now }
 {
-    let mut i = 0;
-    while i < to.len() {
-        if from.len() <= i {
-            return;
-        }
-        to[i] = from[i];
-        i += 1;
-    }
+    let n = to.len().min(from.len());
+    to[..n].copy_from_slice(&from[..n]);
 }

@@ -2,22 +2,14 @@
 -- Assumes nothing.
 use Prim.Native.Nat.{◌%◌}
 use native.Mathlib.Omega.{arith}
-use lib.ListN.{length-set}
 use Rattle.common.proofs.Fills.{fill_none, fill_one, fill-all}
 use Rattle.common.proofs.flat.fill_lookup.Goals as goal
 
 pub loop-i-init : goal.loop-i-init
-loop-i-init c = (omega arith, omega arith, fill_none (λ k. k % 64) c.args.lookup.now)
-
-pub loop-i-smaller : goal.loop-i-smaller
-loop-i-smaller c = simp length-set (omega arith)
+loop-i-init c = fill_none (λ k. k % 64) c.args.lookup.now
 
 pub loop-i-preserved : goal.loop-i-preserved
-loop-i-preserved c = (
-  simp length-set (omega arith),
-  simp length-set (omega arith),
-  fill_one (λ k. k % 64) _ _ c.loop-i-test.true c.loop-i.invariant.2,
-)
+loop-i-preserved c = fill_one (λ k. k % 64) _ _ (omega arith) c.loop-i.invariant
 
 pub returns : goal.returns
-returns c = fill-all (λ k. k % 64) _ c.args.lookup.now _ (omega arith) c.loop-i.invariant.1 c.loop-i.invariant.2
+returns c = fill-all (λ k. k % 64) _ c.args.lookup.now c.loop-i.i (omega arith) (omega arith) c.loop-i.invariant

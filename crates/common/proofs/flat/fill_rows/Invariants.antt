@@ -1,13 +1,9 @@
 -- `flat::fill_rows` meets its contract: the entries before place i are those of the rows, and a turn adds the one at i.
 -- Assumes nothing.
-use Prim.Native.Nat.{◌≤◌, ◌-◌}
 use mathlib.Core.Path.{◌≡◌}
-use lib.ListN.{length, take}
+use lib.ListN.{take}
 use Rattle.common.specs.Flat.{tabulate, in_rows}
 use Rattle.common.proofs.flat.fill_rows.Given as goal
 
 abbrev pub invariant-loop-i : goal.invariant-loop-i
-invariant-loop-i l = (l.i ≤ length l.part) × (length l.part ≡ length l.initial.part) × (take l.i l.part ≡ tabulate (in_rows l.width l.first l.rest) 0 l.i)
-
-abbrev pub decreases-loop-i : goal.decreases-loop-i
-decreases-loop-i l = length l.part - l.i
+invariant-loop-i l = take l.i l.part ≡ tabulate (in_rows l.width l.first l.rest) 0 l.i

@@ -1,50 +1,33 @@
--- `tables::rows_pass` meets its contract: the rows left from place `at` on are what the whole asks, and fill the part to its end.
+-- `tables::rows_pass` meets its contract: the rows left from row k on are what the whole asks, and fill the part to its end.
 -- Assumes nothing.
-use Prim.Native.Nat.{◌+◌, ◌≤◌}
+use Prim.Native.Nat.{◌+◌, ◌*◌, ◌-◌, ◌≤◌}
 use mathlib.Core.Path.{refl, sym, ◌∙◌}
 use native.Mathlib.Omega.{arith}
-use borrow.Author.Tests.{not-true, not-false}
+use native.Mathlib.Nat.{zero-mul, sub-zero}
 use lib.ListN.{length, drop}
-use Rattle.common.proofs.Rows.{rows-size, rows-stop, rows_next, rows_end}
-use Rattle.std.proofs.Common.{ap}
-use mathlib.Core.Bool.{not}
+use Rattle.common.proofs.Rows.{row-stops, row-goes_on, rows_end, row_fits}
 use Rattle.common.proofs.tables.rows_pass.Goals as goal
-use Rattle.common.proofs.tables.rows_pass.Goals.{In-loop-left}
+use Rattle.common.proofs.tables.rows_pass.Goals.{In-loop-k}
 
--- a row more ends within the part
-fits : (c : In-loop-left) → c.loop-left.at + c.args.width ≤ length c.args.part.now
-fits c = omega (arith, rows-size c.loop-left.left c.args.width c.loop-left-test.true)
+-- row k ends within the part
+fits : (c : In-loop-k) → c.loop-k.k * c.args.width + c.args.width ≤ length c.args.part.now
+fits c = rw c.requires (row_fits c.loop-k.k c.args.rows c.args.width c.loop-k-test.true)
 
-pub loop-left-init : goal.loop-left-init
-loop-left-init c = (omega arith, refl)
+pub loop-k-init : goal.loop-k-init
+loop-k-init c = rw (zero-mul, sub-zero) refl
 
-pub overflow_add-end : goal.overflow_add-end
-overflow_add-end c = omega (arith, fits c)
-
-pub offset_bounds-part-at : goal.offset_bounds-part-at
-offset_bounds-part-at c = omega (arith, fits c)
-
-pub slice_bounds-row_passes-end : goal.slice_bounds-row_passes-end
-slice_bounds-row_passes-end c = omega (arith, fits c)
-
-pub row_passes-requires : goal.row_passes-requires
-row_passes-requires c = tt
+pub overflow_mul-at : goal.overflow_mul-at
+overflow_mul-at c = record { fits = omega (arith, fits c) }
 
 pub returns-then-not-row_passes : goal.returns-then-not-row_passes
 returns-then-not-row_passes c =
     let a = c.args in
-    sym (rows-stop c.loop-left.left a.width c.loop-left.at a.part.now c.loop-left-test.true c.row_passes.result c.row_passes.ensures (not-true _ (ap not c.if-not-row_passes.true))) ∙
-    c.loop-left.invariant.1
+    sym (row-stops c.loop-k.k a.rows a.width a.part.now c.loop-k-test.true c.row_passes.result c.row_passes.ensures c.if-not-row_passes.true) ∙ c.loop-k.invariant
 
-pub loop-left-preserved : goal.loop-left-preserved
-loop-left-preserved c =
-    let a = c.args in (
-      omega (arith, rows-size c.loop-left.left c.args.width c.loop-left-test.true),
-      sym (rows_next c.loop-left.left a.width c.loop-left.at a.part.now c.loop-left-test.true c.row_passes.result c.row_passes.ensures (not-false _ (ap not c.if-not-row_passes.false))) ∙
-          c.loop-left.invariant.1,
-    )
+pub loop-k-preserved : goal.loop-k-preserved
+loop-k-preserved c =
+    let a = c.args in
+    sym (row-goes_on c.loop-k.k a.rows a.width a.part.now c.loop-k-test.true c.row_passes.result c.row_passes.ensures c.if-not-row_passes.false) ∙ c.loop-k.invariant
 
 pub returns : goal.returns
-returns c =
-    sym (rows_end c.loop-left.left c.args.width (drop c.loop-left.at c.args.part.now) c.loop-left-test.false) ∙
-    c.loop-left.invariant.1
+returns c = sym (rows_end (c.args.rows - c.loop-k.k) c.args.width (drop (c.loop-k.k * c.args.width) c.args.part.now) (omega arith)) ∙ c.loop-k.invariant
