@@ -5,5 +5,3 @@ pub mod Answers
 pub mod Unique
 pub mod Steps
 pub mod Roomy
-pub mod Readers
-pub mod Held

@@ -2,14 +2,12 @@
 -- the reader, or refuses and leaves it.
 use Rattle.std.specs.Prelude.{ℕ}
 use Rattle.common.specs.Reply.{Answer, accepted, refused}
-use Rattle.buffer_reader.specs.Reads.{take_byte, take_three, take_bits, reply_of}
+use Rattle.buffer_reader.specs.Reads.{take_byte, take_three, take_bits}
 use Rattle.buffer_reader.specs.Steps.{Reading, take_flag}
 use Rattle.buffer_reader.specs.declared.Cursor.{Cursor}
 use Rattle.buffer_reader.specs.declared.reader.Reader.{Reader}
 use Rattle.buffer_reader.specs.declared.reader.Read.{Read}
 use Rattle.buffer_reader.specs.declared.reader.Read.TheVariants.{Byte, Three, Bits, Bit}
-use Rattle.buffer_reader.specs.declared.reader.Taken.{Taken}
-use Rattle.buffer_reader.specs.declared.reader.Taken.TheVariants.{Value, Refused}
 
 -- where it stands
 abbrev pub standing : Reader → Cursor
@@ -36,8 +34,3 @@ moved_to c (refused r) = c
 abbrev pub behind : Reader → Answer (ℕ × Cursor) → Reader
 behind r a =
     record { frame = r.frame; head = (moved_to (standing r) a).head; tail = (moved_to (standing r) a).tail }
-
--- what the enum says
-abbrev pub taken_of : Taken → Answer ℕ
-taken_of (Value v) = accepted v
-taken_of (Refused e) = refused (reply_of e)

@@ -1,18 +1,10 @@
 -- Document 01, "Modules in port order", 1: what each read answers, at any cursor of any buffer. Sums are exact.
 use Rattle.std.specs.Prelude.{ℕ, ◌+◌, ◌*◌, ◌/◌, ◌%◌, ◌-◌, Bool, cond, not, ◌&&◌, ◌||◌, List, leb, ltb, eqb, length, get_or}
-use Rattle.common.specs.Reply.{Reply, Answer, accepted, refused, given, wrong_length, width_not_listed, no_tail_room, head_past_end}
+use Rattle.common.specs.Reply.{Reply, Answer, accepted, given, wrong_length, width_not_listed, no_tail_room, head_past_end}
 use Rattle.buffer_reader.specs.Tail.{tail_bit, field}
 use Rattle.buffer_reader.specs.declared.Cursor.{Cursor}
 use Rattle.buffer_reader.specs.declared.BufferError.{BufferError}
 use Rattle.buffer_reader.specs.declared.BufferError.TheVariants.{WrongLength, WidthNotListed, NoTailRoom, PastEnd}
-use Rattle.buffer_reader.specs.declared.ByteRead.{ByteRead}
-use Rattle.buffer_reader.specs.declared.ByteRead.TheVariants.{Byte, Refused as ByteRefused}
-use Rattle.buffer_reader.specs.declared.ThreeRead.{ThreeRead}
-use Rattle.buffer_reader.specs.declared.ThreeRead.TheVariants.{Three, Refused as ThreeRefused}
-use Rattle.buffer_reader.specs.declared.BitsRead.{BitsRead}
-use Rattle.buffer_reader.specs.declared.BitsRead.TheVariants.{Bits, Refused as BitsRefused}
-use Rattle.buffer_reader.specs.declared.BitRead.{BitRead}
-use Rattle.buffer_reader.specs.declared.BitRead.TheVariants.{Bit, Refused as BitRefused}
 
 -- refusal 2, which every read of a leaf gives first: a buffer over 65,535 bytes
 abbrev pub too_long : {A : Type 0} → List ℕ → Answer A → Answer A
@@ -73,20 +65,3 @@ reply_of (WrongLength len) = wrong_length len
 reply_of (WidthNotListed width) = width_not_listed width
 reply_of (NoTailRoom width tail) = no_tail_room width tail
 reply_of (PastEnd head) = head_past_end head
-
--- what each enum of an answer says
-abbrev pub byte_of : ByteRead → Answer (ℕ × Cursor)
-byte_of (Byte b c) = accepted (b, c)
-byte_of (ByteRefused e) = refused (reply_of e)
-
-abbrev pub three_of : ThreeRead → Answer (ℕ × Cursor)
-three_of (Three v c) = accepted (v, c)
-three_of (ThreeRefused e) = refused (reply_of e)
-
-abbrev pub bits_of : BitsRead → Answer (ℕ × Cursor)
-bits_of (Bits v c) = accepted (v, c)
-bits_of (BitsRefused e) = refused (reply_of e)
-
-abbrev pub bit_of : BitRead → Answer (Bool × Cursor)
-bit_of (Bit b c) = accepted (b, c)
-bit_of (BitRefused e) = refused (reply_of e)

@@ -17,14 +17,5 @@ pub fn no_tail_room(num_bits: usize, tail: usize) -> BufferError
 pub fn listed(num_bits: usize) -> bool
     ensures { result ≡ Reads·listed num_bits }
 {
-    if num_bits == 0 {
-        return false;
-    }
-    if num_bits <= 9 {
-        return true;
-    }
-    if num_bits == 24 {
-        return true;
-    }
-    num_bits == 25
+    matches!(num_bits, 1..=9 | 24 | 25)
 }

@@ -3,7 +3,8 @@
 #![tactic(auto)]
 
 ghost use Rattle.std.specs.Prelude.{◌≡◌};
-ghost use Rattle.buffer_reader.specs.Reads.{take_byte, take_three, take_bits, take_bit, byte_of, three_of, bits_of, bit_of};
+ghost use Rattle.common.specs.Reply.{answer_by};
+ghost use Rattle.buffer_reader.specs.Reads.{take_byte, take_three, take_bits, take_bit, reply_of};
 
 pub mod inner;
 pub mod reader;
@@ -24,30 +25,6 @@ pub enum BufferError {
     PastEnd(usize),
 }
 
-#[derive(Clone, Copy)]
-pub enum ByteRead {
-    Byte(u8, Cursor),
-    Refused(BufferError),
-}
-
-#[derive(Clone, Copy)]
-pub enum ThreeRead {
-    Three(u32, Cursor),
-    Refused(BufferError),
-}
-
-#[derive(Clone, Copy)]
-pub enum BitsRead {
-    Bits(u32, Cursor),
-    Refused(BufferError),
-}
-
-#[derive(Clone, Copy)]
-pub enum BitRead {
-    Bit(bool, Cursor),
-    Refused(BufferError),
-}
-
 impl Cursor {
     pub fn new() -> Self
         ensures { (result.head ≡ 0) × (result.tail ≡ 0) }
@@ -56,98 +33,97 @@ impl Cursor {
     }
 
     // The next byte from the head.
-    pub fn take_byte(self, buf: &[u8]) -> ByteRead
-        ensures { byte_of result ≡ take_byte buf.now self }
+    pub fn take_byte(self, buf: &[u8]) -> Result<(u8, Cursor), BufferError>
+        ensures { answer_by reply_of result ≡ take_byte buf.now self }
     {
         let head = self.head;
-        if 65535 < buf.len() {
-            return ByteRead::Refused(BufferError::WrongLength(buf.len()));
+        let len = buf.len();
+        if 65535 < len {
+            return Err(BufferError::WrongLength(len));
         }
-        if buf.len() <= head {
-            return ByteRead::Refused(BufferError::PastEnd(head));
+        if len <= head {
+            return Err(BufferError::PastEnd(head));
         }
-        ByteRead::Byte(
+        Ok((
             buf[head],
             Cursor {
                 head: head + 1,
-                tail: self.tail,
+                ..self
             },
-        )
+        ))
     }
 
     // The decoder's start: the next three bytes from the head, the first of them highest.
-    pub fn take_three(self, buf: &[u8]) -> ThreeRead
-        ensures { three_of result ≡ take_three buf.now self }
+    pub fn take_three(self, buf: &[u8]) -> Result<(u32, Cursor), BufferError>
+        ensures { answer_by reply_of result ≡ take_three buf.now self }
     {
         let head = self.head;
         let len = buf.len();
         if 65535 < len {
-            return ThreeRead::Refused(BufferError::WrongLength(len));
+            return Err(BufferError::WrongLength(len));
         }
         // by a difference, since the cursor may be any number
-        if len < 3 {
-            return ThreeRead::Refused(BufferError::PastEnd(head));
+        if len < 3 || len - 3 < head {
+            return Err(BufferError::PastEnd(head));
         }
-        if len - 3 < head {
-            return ThreeRead::Refused(BufferError::PastEnd(head));
-        }
-        ThreeRead::Three(
-            common::inner::wide(buf[head]) * 65536
-                + common::inner::wide(buf[head + 1]) * 256
-                + common::inner::wide(buf[head + 2]),
+        let three = u32::from(buf[head]) * 65536
+            + u32::from(buf[head + 1]) * 256
+            + u32::from(buf[head + 2]);
+        Ok((
+            three,
             Cursor {
                 head: head + 3,
-                tail: self.tail,
+                ..self
             },
-        )
+        ))
     }
 
     // A field of so many bits from the tail, its first bit lowest.
-    pub fn take_bits(self, buf: &[u8], num_bits: usize) -> BitsRead
-        ensures { bits_of result ≡ take_bits buf.now self num_bits }
+    pub fn take_bits(self, buf: &[u8], num_bits: usize) -> Result<(u32, Cursor), BufferError>
+        ensures { answer_by reply_of result ≡ take_bits buf.now self num_bits }
     {
         let len = buf.len();
         if 65535 < len {
-            return BitsRead::Refused(BufferError::WrongLength(len));
+            return Err(BufferError::WrongLength(len));
         }
         if !inner::listed(num_bits) {
-            return BitsRead::Refused(BufferError::WidthNotListed(num_bits));
+            return Err(BufferError::WidthNotListed(num_bits));
         }
         let byte_index = self.tail / 8;
         let bit_index = self.tail % 8;
         let num_bytes = tail::bytes_wanted(num_bits, bit_index);
         if tail::field_beyond(len, num_bytes, self.head, byte_index) {
-            return BitsRead::Refused(inner::no_tail_room(num_bits, self.tail));
+            return Err(inner::no_tail_room(num_bits, self.tail));
         }
-        BitsRead::Bits(
+        Ok((
             tail::field(buf, byte_index, bit_index, num_bits, num_bytes),
             Cursor {
-                head: self.head,
                 tail: self.tail + num_bits,
+                ..self
             },
-        )
+        ))
     }
 
     // One bit from the tail.
-    pub fn take_bit(self, buf: &[u8]) -> BitRead
-        ensures { bit_of result ≡ take_bit buf.now self }
+    pub fn take_bit(self, buf: &[u8]) -> Result<(bool, Cursor), BufferError>
+        ensures { answer_by reply_of result ≡ take_bit buf.now self }
     {
         let len = buf.len();
         if 65535 < len {
-            return BitRead::Refused(BufferError::WrongLength(len));
+            return Err(BufferError::WrongLength(len));
         }
         let byte_index = self.tail / 8;
         let bit_index = self.tail % 8;
         if tail::bit_beyond(len, self.head, byte_index) {
-            return BitRead::Refused(inner::no_tail_room(1, self.tail));
+            return Err(inner::no_tail_room(1, self.tail));
         }
         let at = len - 1 - byte_index;
-        BitRead::Bit(
+        Ok((
             (buf[at] >> bit_index) % 2 == 1,
             Cursor {
-                head: self.head,
                 tail: self.tail + 1,
+                ..self
             },
-        )
+        ))
     }
 }

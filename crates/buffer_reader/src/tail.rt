@@ -18,13 +18,7 @@ pub(crate) fn bytes_wanted(num_bits: usize, bit_index: usize) -> usize
 pub(crate) fn field_beyond(len: usize, num_bytes: usize, head: usize, byte_index: usize) -> bool
     ensures { result ≡ ltb len (num_bytes + head + byte_index) }
 {
-    if len < num_bytes {
-        return true;
-    }
-    if len - num_bytes < head {
-        return true;
-    }
-    len - num_bytes - head < byte_index
+    len < num_bytes || len - num_bytes < head || len - num_bytes - head < byte_index
 }
 
 // The same for a bit, which the head may have passed by two bytes.
@@ -32,10 +26,7 @@ pub(crate) fn bit_beyond(len: usize, head: usize, byte_index: usize) -> bool
     requires { len ≤ 65535 }
     ensures { result ≡ (ltb (len + 2) (head + byte_index) || leb len byte_index) }
 {
-    if len <= byte_index {
-        return true;
-    }
-    len + 2 - byte_index < head
+    len <= byte_index || len + 2 - byte_index < head
 }
 
 // The bytes from byte_index on, counted from the end, as one number, the last byte lowest.
@@ -44,19 +35,19 @@ fn number(buf: &[u8], byte_index: usize, num_bytes: usize) -> u32
     ensures { result ≡ tail_number buf.now byte_index num_bytes }
 {
     let end = buf.len() - byte_index;
-    let one = common::inner::wide(buf[end - 1]);
+    let one = u32::from(buf[end - 1]);
     if num_bytes == 1 {
         return one;
     }
-    let two = one + common::inner::wide(buf[end - 2]) * 256;
+    let two = one + u32::from(buf[end - 2]) * 256;
     if num_bytes == 2 {
         return two;
     }
-    let three = two + common::inner::wide(buf[end - 3]) * 65536;
+    let three = two + u32::from(buf[end - 3]) * 65536;
     if num_bytes == 3 {
         return three;
     }
-    three + common::inner::wide(buf[end - 4]) * 16777216
+    three + u32::from(buf[end - 4]) * 16777216
 }
 
 // The bits that are not wanted are shifted out above, then below.

@@ -11,20 +11,20 @@ pub returns-then-num_bytes-eq1 : goal.returns-then-num_bytes-eq1
 returns-then-num_bytes-eq1 c =
     let a = c.args in
     let fits : a.byte_index + 1 ≤ length a.buf.now = omega (arith, c.requires, c.if-num_bytes-eq1.true) in
-    rw (c.if-num_bytes-eq1.true, number-one a.buf.now a.byte_index fits) c.wide-one.ensures.0
+    rw (c.if-num_bytes-eq1.true, number-one a.buf.now a.byte_index fits) c.from-one.ensures
 
 pub returns-then-num_bytes-eq2 : goal.returns-then-num_bytes-eq2
 returns-then-num_bytes-eq2 c =
     let a = c.args in
     let fits : a.byte_index + 2 ≤ length a.buf.now = omega (arith, c.requires, c.if-num_bytes-eq2.true) in
-    rw (c.if-num_bytes-eq2.true, number-two a.buf.now a.byte_index fits) (omega (arith, c.wide-one.ensures.0, c.wide.ensures.0))
+    rw (c.if-num_bytes-eq2.true, number-two a.buf.now a.byte_index fits) (omega (arith, c.from-one.ensures, c.from.ensures))
 
 pub returns-then-num_bytes-eq3 : goal.returns-then-num_bytes-eq3
 returns-then-num_bytes-eq3 c =
     let a = c.args in
     let fits : a.byte_index + 3 ≤ length a.buf.now = omega (arith, c.requires, c.if-num_bytes-eq3.true) in
     rw (c.if-num_bytes-eq3.true, number-three a.buf.now a.byte_index fits)
-    (omega (arith, c.wide-one.ensures.0, c.wide.ensures.0, c.wide-2.ensures.0))
+    (omega (arith, c.from-one.ensures, c.from.ensures, c.from-2.ensures))
 
 pub returns : goal.returns
 returns c =
@@ -32,4 +32,4 @@ returns c =
     let four : a.num_bytes ≡ 4 = omega (arith, c.requires, c.if-num_bytes-eq1.false, c.if-num_bytes-eq2.false, c.if-num_bytes-eq3.false) in
     let fits : a.byte_index + 4 ≤ length a.buf.now = omega (arith, c.requires, four) in
     rw (four, number-four a.buf.now a.byte_index fits)
-    (omega (arith, c.wide-one.ensures.0, c.wide.ensures.0, c.wide-2.ensures.0, c.wide-3.ensures.0))
+    (omega (arith, c.from-one.ensures, c.from.ensures, c.from-2.ensures, c.from-3.ensures))
