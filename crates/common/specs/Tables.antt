@@ -9,6 +9,10 @@ pub record Tables : Type 0 where
   pub orders : List ℕ
   pub coefficients : List ℕ
 
+abbrev pub tables_of : List ℕ → List ℕ → List ℕ → List ℕ → List ℕ → Tables
+tables_of lookup frequencies bits orders coefficients =
+    record { lookup = lookup; frequencies = frequencies; bits = bits; orders = orders; coefficients = coefficients }
+
 unfoldable pub total : List ℕ → ℕ
 total [] = 0
 total (x ∷ xs) = x + total xs

@@ -5,4 +5,5 @@
 pub mod configuration;
 pub mod flat;
 pub mod inner;
+pub mod table_set;
 pub mod tables;

@@ -1,6 +1,9 @@
 // The table set's check: five lent slices, and a row lent alone.
-ghost use Rattle.std.specs.Prelude.{◌≡◌, ◌*◌, ◌≤◌, ◌↔◌, length, IsTrue, EachIndex, slice_index};
+ghost use Rattle.std.specs.Prelude.{◌≡◌, ◌*◌, ◌≤◌, ◌↔◌, length, true, false, IsTrue, EachIndex, MatchOption, slice_index};
+ghost use Rattle.common.specs.TableSets.{set_of, passed_of};
 ghost use Rattle.common.specs.Tables.{row_passes, rows_pass, part_passes, lookup_passes, tables_pass};
+
+use crate::table_set::{PassedSet, TableSet};
 
 // Whether a row of any length passes. The total stops at 1,024, so no length overflows it.
 pub fn row_passes(row: &[u16]) -> bool
@@ -16,7 +19,36 @@ pub fn row_passes(row: &[u16]) -> bool
     total == 1024
 }
 
-// Whether the table set passes.
+impl<'a> TableSet<'a> {
+    // Whether the table set passes.
+    pub fn passes(&self) -> bool
+        ensures { result ≡ tables_pass (set_of self.now) }
+    {
+        lookup_passes(self.lookup)
+            && part_passes(self.frequencies, 64, 17)
+            && self.bits.len() == 1088
+            && part_passes(self.orders, 2, 8)
+            && part_passes(self.coefficients, 8, 17)
+    }
+
+    // The same set, if it passes.
+    pub fn passed(self) -> Option<PassedSet<'a>>
+        ensures { MatchOption result (tables_pass (set_of self.entry) ≡ false) (λ t. passed_of t ≡ set_of self.entry) }
+    {
+        if !self.passes() {
+            return None;
+        }
+        Some(PassedSet {
+            lookup: self.lookup,
+            frequencies: self.frequencies,
+            bits: self.bits,
+            orders: self.orders,
+            coefficients: self.coefficients,
+        })
+    }
+}
+
+// The same of five parts. Goes when nothing calls it.
 pub fn tables_pass(
     lookup: &[u8],
     frequencies: &[u16],
@@ -26,11 +58,14 @@ pub fn tables_pass(
 ) -> bool
     ensures { result ≡ tables_pass (record { lookup = lookup.now; frequencies = frequencies.now; bits = bits.now; orders = orders.now; coefficients = coefficients.now }) }
 {
-    lookup_passes(lookup)
-        && part_passes(frequencies, 64, 17)
-        && bits.len() == 1088
-        && part_passes(orders, 2, 8)
-        && part_passes(coefficients, 8, 17)
+    let set = TableSet {
+        lookup,
+        frequencies,
+        bits,
+        orders,
+        coefficients,
+    };
+    set.passes()
 }
 
 fn lookup_passes(lookup: &[u8]) -> bool

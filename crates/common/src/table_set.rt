@@ -1,0 +1,24 @@
+// The table set as it is lent, and one that passes. The check that leads from the one to the other is in tables.
+ghost use Rattle.std.specs.Prelude.{◌≡◌, true};
+ghost use Rattle.common.specs.Tables.{tables_pass, tables_of};
+
+// A table set, lent: five parts of any length.
+#[derive(Clone, Copy)]
+pub struct TableSet<'a> {
+    pub lookup: &'a [u8],
+    pub frequencies: &'a [u16],
+    pub bits: &'a [u16],
+    pub orders: &'a [u16],
+    pub coefficients: &'a [u16],
+}
+
+// A table set that passes. Behind the check the calls take this, so that none of them asks again.
+#[derive(Clone, Copy)]
+pub struct PassedSet<'a> {
+    pub lookup: &'a [u8],
+    pub frequencies: &'a [u16],
+    pub bits: &'a [u16],
+    pub orders: &'a [u16],
+    pub coefficients: &'a [u16],
+    ghost passed: { tables_pass (tables_of lookup.now frequencies.now bits.now orders.now coefficients.now) ≡ true },
+}
