@@ -5,7 +5,8 @@ use mathlib.Core.Path.{◌≡◌, refl, ap, ◌∙◌}
 use mathlib.Core.Bool.{true}
 use mathlib.Core.List.{List}
 use native.Mathlib.Omega.{arith}
-use lib.ListN.{length, get_or}
+use lib.ListN.{length, get_or, take, drop}
+use Rattle.std.proofs.lemmas.List.{length-take, get_or-take, get_or-drop}
 use Rattle.common.specs.Tables.{row_passes, cumulative}
 use Rattle.common.proofs.Cumulatives.{cumulative-next, cumulative-bound}
 use Rattle.common.proofs.Halves.{Among}
@@ -28,6 +29,13 @@ sum-join row at m n x y first second =
 -- and they are no more than the whole
 pub sum-most : (row : List ℕ) (at n x : ℕ) → row_passes row ≡ true → at + n ≤ length row → cumulative row at + x ≡ cumulative row (at + n) → x ≤ 1024
 sum-most row at n x passed within e = omega (arith, cumulative-bound row passed (at + n) within)
+
+-- a place of a part of a row, by its place in the row
+pub part_place : (row : List ℕ) (at n k : ℕ) → k < length (take (at + n - at) (drop at row)) → k < n
+part_place row at n k l = omega (arith, length-take (at + n - at) (drop at row))
+
+pub part_at : (row : List ℕ) (at n k x : ℕ) → k < n → x ≡ get_or (take (at + n - at) (drop at row)) k 0 → x ≡ get_or row (at + k) 0
+part_at row at n k x l e = e ∙ get_or-take (at + n - at) (drop at row) k 0 (omega arith) ∙ get_or-drop at row k 0
 
 -- one symbol is left
 module _ (row : List ℕ) (passed : row_passes row ≡ true) (r low symbol left sum base end products : ℕ) (a : Among row r low symbol left sum base end products) (one : left ≡ 1) where

@@ -1,6 +1,6 @@
 -- Document 01, "The coder", first paragraph: the decoder's start, and the symbol step on a row of any length that passes.
 -- Nothing here says how the symbol is found.
-use Rattle.std.specs.Prelude.{ℕ, ◌+◌, ◌-◌, ◌*◌, ◌/◌, Bool, cond, not, ◌&&◌, List, leb, ltb, length, get_or}
+use Rattle.std.specs.Prelude.{ℕ, ◌+◌, ◌-◌, ◌*◌, ◌/◌, Bool, cond, not, ◌&&◌, List, leb, ltb, length, get_or, Result, Ok, Err}
 use Rattle.common.specs.Reply.{Reply, Answer, accepted, refused, given, outside_limits, tables_fail, low_beyond_limit}
 use Rattle.common.specs.Tables.{row_passes, cumulative}
 use Rattle.common.specs.Last.{last_below}
@@ -11,10 +11,6 @@ use Rattle.buffer_reader.specs.declared.Cursor.{Cursor}
 use Rattle.range_decoder.specs.declared.DecoderState.{DecoderState}
 use Rattle.range_decoder.specs.declared.CodecError.{CodecError}
 use Rattle.range_decoder.specs.declared.CodecError.TheVariants.{OutsideLimits, RowFails, LowBeyondLimit, Buffer}
-use Rattle.range_decoder.specs.declared.Started.{Started}
-use Rattle.range_decoder.specs.declared.Started.TheVariants.{At, Refused as StartRefused}
-use Rattle.range_decoder.specs.declared.SymbolRead.{SymbolRead}
-use Rattle.range_decoder.specs.declared.SymbolRead.TheVariants.{Symbol, Refused as SymbolRefused}
 
 -- "Decoder start: low is three head bytes, range 0xFFFFFF"
 abbrev pub start_decoder : Reading DecoderState
@@ -73,11 +69,7 @@ reply_of RowFails = tables_fail
 reply_of (LowBeyondLimit low limit) = low_beyond_limit low limit
 reply_of (Buffer e) = buffer_reply e
 
--- what each enum of an answer says
-abbrev pub started_of : Started → Answer (DecoderState × Cursor)
-started_of (At s c) = accepted (s, c)
-started_of (StartRefused e) = refused (reply_of e)
-
-abbrev pub symbol_of : SymbolRead → Answer (Decoded × Cursor)
-symbol_of (Symbol k s c) = accepted (record { symbol = k; state = s }, c)
-symbol_of (SymbolRefused e) = refused (reply_of e)
+-- what the result of a step says
+abbrev pub symbol_of : Result (ℕ × DecoderState × Cursor) CodecError → Answer (Decoded × Cursor)
+symbol_of (Ok (k, s, c)) = accepted (record { symbol = k; state = s }, c)
+symbol_of (Err e) = refused (reply_of e)

@@ -3,10 +3,8 @@
 use Rattle.std.specs.Prelude.{ℕ}
 use Rattle.common.specs.Reply.{Answer, accepted, refused}
 use Rattle.buffer_reader.specs.declared.Cursor.{Cursor}
-use Rattle.range_decoder.specs.Decoder.{Decoded, reply_of}
+use Rattle.range_decoder.specs.Decoder.{Decoded}
 use Rattle.range_decoder.specs.declared.DecoderState.{DecoderState}
-use Rattle.range_decoder.specs.declared.lent.SymbolAt.{SymbolAt}
-use Rattle.range_decoder.specs.declared.lent.SymbolAt.TheVariants.{Symbol, Refused}
 
 -- the symbol and the next cursor, or the refusal
 abbrev pub symbol_alone : Answer (Decoded × Cursor) → Answer (ℕ × Cursor)
@@ -17,8 +15,3 @@ symbol_alone (refused r) = refused r
 abbrev pub state_behind : DecoderState → Answer (Decoded × Cursor) → DecoderState
 state_behind before (accepted v) = v.0.state
 state_behind before (refused r) = before
-
--- what the enum says
-abbrev pub symbol_at_of : SymbolAt → Answer (ℕ × Cursor)
-symbol_at_of (Symbol k c) = accepted (k, c)
-symbol_at_of (Refused e) = refused (reply_of e)

@@ -2,7 +2,9 @@
 #![tactic(auto)]
 
 ghost use Rattle.std.specs.Prelude.{◌≡◌};
-ghost use Rattle.range_decoder.specs.Decoder.{start_decoder, decode_symbol, started_of, symbol_of};
+ghost use Rattle.common.specs.Reply.{answer_by};
+ghost use Rattle.range_decoder.specs.Decoder.{start_decoder, decode_symbol, symbol_of, reply_of};
+ghost use Rattle.range_decoder.specs.declared.CodecError.TheVariants.{Buffer};
 
 use buffer_reader::{BufferError, Cursor};
 
@@ -25,47 +27,44 @@ pub enum CodecError {
     Buffer(BufferError),
 }
 
-#[derive(Clone, Copy)]
-pub enum Started {
-    At(DecoderState, Cursor),
-    Refused(CodecError),
-}
+impl From<BufferError> for CodecError {
+    ghost from_gives = { λ e r. r ≡ Buffer e };
 
-#[derive(Clone, Copy)]
-pub enum SymbolRead {
-    Symbol(usize, DecoderState, Cursor),
-    Refused(CodecError),
+    fn from(e: BufferError) -> CodecError {
+        CodecError::Buffer(e)
+    }
 }
 
 // The first three head bytes.
-pub fn ac_dec_init(buf: &[u8], at: Cursor) -> Started
-    ensures { started_of result ≡ start_decoder buf.now at }
+pub fn ac_dec_init(buf: &[u8], at: Cursor) -> Result<(DecoderState, Cursor), CodecError>
+    ensures { answer_by reply_of result ≡ start_decoder buf.now at }
 {
-    match at.take_three(buf) {
-        buffer_reader::ThreeRead::Three(low, next) => Started::At(
-            DecoderState {
-                low,
-                range: 0xffffff,
-            },
-            next,
-        ),
-        buffer_reader::ThreeRead::Refused(e) => Started::Refused(CodecError::Buffer(e)),
-    }
+    let (low, next) = at.take_three(buf)?;
+    let state = DecoderState {
+        low,
+        range: 0xffffff,
+    };
+    Ok((state, next))
 }
 
 // One symbol, by a row that is lent alone.
-pub fn ac_decode(state: DecoderState, buf: &[u8], at: Cursor, row: &[u16]) -> SymbolRead
+pub fn ac_decode(
+    state: DecoderState,
+    buf: &[u8],
+    at: Cursor,
+    row: &[u16],
+) -> Result<(usize, DecoderState, Cursor), CodecError>
     ensures { symbol_of result ≡ decode_symbol state row.now buf.now at }
 {
     if !inner::range_passes(state.range) {
-        return SymbolRead::Refused(CodecError::OutsideLimits);
+        return Err(CodecError::OutsideLimits);
     }
     let len = buf.len();
     if 65535 < len {
-        return SymbolRead::Refused(CodecError::Buffer(BufferError::WrongLength(len)));
+        return Err(CodecError::Buffer(BufferError::WrongLength(len)));
     }
     if !common::tables::row_passes(row) {
-        return SymbolRead::Refused(CodecError::RowFails);
+        return Err(CodecError::RowFails);
     }
     inner::ac_decode(state, buf, at, row)
 }

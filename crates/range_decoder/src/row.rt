@@ -31,12 +31,6 @@ pub(crate) struct Product {
     pub made: usize,
 }
 
-fn wide(frequency: u16) -> u32
-    ensures { result ≡ frequency }
-{
-    frequency as u32
-}
-
 // The one place where the search multiplies, so that none goes uncounted.
 fn times(unit: u32, sum: u32, made: usize) -> Product
     requires { (unit ≤ 16383) × (sum ≤ 1024) × (made < 10) }
@@ -53,7 +47,7 @@ fn two(row: &[u16], at: usize) -> u32
     requires { (row_passes row.now ≡ true) × (at + 2 ≤ length row.now) }
     ensures { cumulative row.now at + result ≡ cumulative row.now (at + 2) }
 {
-    wide(row[at]) + wide(row[at + 1])
+    u32::from(row[at]) + u32::from(row[at + 1])
 }
 
 fn four(row: &[u16], at: usize) -> u32
@@ -68,10 +62,8 @@ fn any(row: &[u16], at: usize, count: usize) -> u32
     ensures { cumulative row.now at + result ≡ cumulative row.now (at + count) }
 {
     let mut sum: u32 = 0;
-    let mut k = 0;
-    while k < count {
-        sum += wide(row[at + k]);
-        k += 1;
+    for &frequency in &row[at..at + count] {
+        sum += u32::from(frequency);
     }
     sum
 }
@@ -82,7 +74,7 @@ fn sum_of(row: &[u16], at: usize, count: usize) -> u32
     ensures { cumulative row.now at + result ≡ cumulative row.now (at + count) }
 {
     match count {
-        1 => wide(row[at]),
+        1 => u32::from(row[at]),
         2 => two(row, at),
         4 => four(row, at),
         8 => four(row, at) + four(row, at + 4),
@@ -104,17 +96,15 @@ fn turn(unit: u32, low: u32, row: &[u16], half: usize, rest: Rest) -> Rest
             left: rest.left - half,
             sum,
             base: product.value,
-            end: rest.end,
             products: product.made,
+            ..rest
         };
     }
     Rest {
-        symbol: rest.symbol,
         left: rest.left - half,
-        sum: rest.sum,
-        base: rest.base,
         end: product.value,
         products: product.made,
+        ..rest
     }
 }
 
@@ -149,7 +139,7 @@ fn of_seventeen(unit: u32, limit: u32, low: u32, row: &[u16]) -> Rest
     ensures left { result.left ≡ 1 }
     ensures among { Among row.now unit low result.symbol result.left result.sum result.base result.end result.products }
 {
-    let sum = 1024 - wide(row[16]);
+    let sum = 1024 - u32::from(row[16]);
     let first = times(unit, sum, 0);
     if first.value <= low {
         return Rest {
