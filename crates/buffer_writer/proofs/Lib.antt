@@ -1,6 +1,5 @@
 pub mod Bytes
 pub mod Places
 pub mod Answers
-pub mod Unique
 pub mod Back
 pub mod Copies

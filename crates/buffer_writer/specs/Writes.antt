@@ -1,12 +1,10 @@
 -- Document 01, "Modules in port order", 2: what each write answers, at any cursor of any buffer, and the whole buffer behind
 -- it. Sums are exact. Places, fields and the list of widths are the reader's.
 use Rattle.std.specs.Prelude.{ℕ, zero, suc, ◌+◌, ◌-◌, ◌*◌, ◌/◌, ◌%◌, ◌^◌, Bool, cond, not, ◌&&◌, List, leb, ltb, length, get_or, set}
-use Rattle.common.specs.Reply.{Answer, accepted, refused, given, unless_refused, width_not_listed, no_tail_room, head_past_end}
+use Rattle.common.specs.Reply.{Answer, accepted, given, unless_refused, width_not_listed, no_tail_room, head_past_end}
 use Rattle.buffer_reader.specs.Tail.{tail_byte}
-use Rattle.buffer_reader.specs.Reads.{too_long, listed, reply_of}
+use Rattle.buffer_reader.specs.Reads.{too_long, listed}
 use Rattle.buffer_reader.specs.declared.Cursor.{Cursor}
-use Rattle.buffer_writer.specs.declared.Written.{Written}
-use Rattle.buffer_writer.specs.declared.Written.TheVariants.{At, Refused}
 
 -- a byte with its bit k replaced
 abbrev pub with_bit : ℕ → ℕ → ℕ → ℕ
@@ -72,7 +70,3 @@ write_top f c n =
 
 abbrev pub top_written : List ℕ → Cursor → ℕ → ℕ → List ℕ
 top_written f c v n = unless_refused (write_top f c n) f (set f c.head (with_top (get_or f c.head 0) v n))
-
-abbrev pub written_of : Written → Answer Cursor
-written_of (At c) = accepted c
-written_of (Refused e) = refused (reply_of e)

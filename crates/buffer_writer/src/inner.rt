@@ -8,10 +8,7 @@ ghost use Rattle.buffer_writer.specs.Writes.{put_bit, put_field, with_top};
 pub fn beyond(bits: usize, place: usize, num_bits: usize) -> bool
     ensures { result ≡ ltb bits (place + num_bits) }
 {
-    if bits < num_bits {
-        return true;
-    }
-    bits - num_bits < place
+    bits < num_bits || bits - num_bits < place
 }
 
 pub fn put_bit(buf: &mut [u8], place: usize, bit: u32)
@@ -26,14 +23,10 @@ pub fn put_field(buf: &mut [u8], place: usize, val: u32, num_bits: usize)
     requires { (length buf.old ≤ 65535) × (place + num_bits ≤ 8 * length buf.old) }
     ensures { buf.new ≡ put_field buf.old place val num_bits }
 {
-    let mut at = place;
     let mut rest = val;
-    let mut left = num_bits;
-    while 0 < left {
+    for at in place..place + num_bits {
         put_bit(buf, at, rest % 2);
-        at += 1;
         rest /= 2;
-        left -= 1;
     }
 }
 
@@ -42,13 +35,7 @@ pub fn put_copies(buf: &mut [u8], place: usize, byte: u8, count: usize)
     requires { place + count ≤ length buf.old }
     ensures { buf.new ≡ sets buf.old place (replicate count byte) }
 {
-    let mut at = place;
-    let mut left = count;
-    while 0 < left {
-        buf[at] = byte;
-        at += 1;
-        left -= 1;
-    }
+    buf[place..place + count].fill(byte);
 }
 
 // The top bits of the byte at a head place.

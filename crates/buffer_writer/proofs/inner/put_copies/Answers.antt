@@ -1,25 +1,11 @@
--- `inner::put_copies` meets its contract: what is left to lay, into the buffer as it is now, makes the same buffer.
+-- `inner::put_copies` meets its contract: the part that is filled is so many copies.
 -- Assumes nothing.
-use mathlib.Core.Path.{◌≡◌, refl, sym, ◌∙◌}
+use Prim.Native.Nat.{◌+◌, ◌-◌}
 use native.Mathlib.Omega.{arith}
-use lib.ListN.{length-set}
-use Rattle.buffer_writer.proofs.Copies.{copies-turn}
+use Rattle.buffer_writer.proofs.Copies.{copies-laid}
 use Rattle.buffer_writer.proofs.inner.put_copies.Goals as goal
-
-pub loop-left-init : goal.loop-left-init
-loop-left-init c = (refl, refl, refl)
-
-pub loop-left-preserved : goal.loop-left-preserved
-loop-left-preserved c = (
-  omega arith,
-  rw length-set c.loop-left.invariant.1,
-  sym (copies-turn c.loop-left.buf c.loop-left.at c.args.byte c.loop-left.left c.loop-left-test.true) ∙ c.loop-left.invariant.2,
-)
-
-pub shape_of-buf : goal.shape_of-buf
-shape_of-buf c = c.loop-left.invariant.1
 
 pub returns : goal.returns
 returns c =
-    let z : c.loop-left.left ≡ 0 = omega arith in
-    rw z at c.loop-left.invariant.2
+    let a = c.args in
+    copies-laid a.buf.now c.fill.new.self a.place a.byte a.count (a.place + a.count - a.place) (omega arith) c.requires (c.fill.ensures.after (λ y e. e))
