@@ -7,10 +7,10 @@ use mathlib.Core.Logic.{⊎_elim}
 use native.Mathlib.Omega.{arith}
 use native.Mathlib.Nat.{eq-or-lt_of_le}
 use borrow.Author.Count.{below_more}
-use borrow.Author.Tests.{lt-ltb, ltb-true, le-ltb, leb-true, leb-false}
+use borrow.Author.Tests.{lt-ltb, ltb-true, leb-true, leb-false}
 use lib.Dec.{leb, ltb}
 use lib.Pow.{shr-shr, shr_le}
-use Rattle.common.proofs.Bools.{and_left, and_right, and_both, and-first-fails, and-first-holds, not-passed, by-test}
+use Rattle.common.proofs.Bools.{and_left, and_right, and_both, not-passed, by-test}
 use Rattle.contexts.specs.Contexts.{shifted, fits_symbol, escapes, escape_symbol, symbol_from, first_part, second_part, pair_symbol}
 use Rattle.contexts.proofs.Firsts.{First, first-is, first-law, first-most}
 
@@ -21,12 +21,6 @@ fits_both a b n p q = and_both (ltb (shifted a n) 4) (ltb (shifted b n) 4) (lt-l
 pub fits-parts : (a b n : ℕ) → fits_symbol a b n ≡ true → (shifted a n < 4) × (shifted b n < 4)
 fits-parts a b n e =
     (ltb-true (shifted a n) 4 (and_left (ltb (shifted a n) 4) (ltb (shifted b n) 4) e), ltb-true (shifted b n) 4 (and_right (ltb (shifted a n) 4) (ltb (shifted b n) 4) e))
-
-pub first-large : (a b n : ℕ) → 4 ≤ shifted a n → fits_symbol a b n ≡ false
-first-large a b n h = and-first-fails (ltb (shifted b n) 4) (le-ltb (shifted a n) 4 h)
-
-pub second-decides : (a b n : ℕ) → shifted a n < 4 → fits_symbol a b n ≡ ltb (shifted b n) 4
-second-decides a b n h = and-first-holds (ltb (shifted b n) 4) (lt-ltb (shifted a n) 4 h)
 
 -- 16-bit numbers fit behind 14 escapes
 pub fits-14 : (a b : ℕ) → a < 65536 → b < 65536 → fits_symbol a b 14 ≡ true

@@ -6,7 +6,7 @@ use mathlib.Core.Bool.{true}
 use mathlib.Core.List.{List}
 use native.Mathlib.Omega.{arith}
 use native.Mathlib.Nat.{mul-le-mul, add-zero}
-use borrow.Author.Tests.{lt-ltb, le-ltb, le-leb, lt-leb, leb-true, eqb-true}
+use borrow.Author.Tests.{lt-ltb, le-ltb, leb-true, eqb-true}
 use lib.Dec.{leb, ltb, eqb}
 use lib.ListN.{length}
 use Rattle.common.specs.Tables.{all_at_most, lookup_passes}
@@ -46,13 +46,6 @@ module _ (lookup : List ℕ) (passed : lookup_passes lookup ≡ true) where
 
   pub row_low : (t level : ℕ) → row_of lookup t level ≤ 63
   row_low t level = at_most 63 lookup (t + 1024 * min level 3) (and_right (eqb (length lookup) 4096) (all_at_most 63 lookup) passed)
-
--- the trace of a pair, case by case, and that it is at most 15
-pub trace-low : (a b level : ℕ) → level ≤ 1 → trace a b level ≡ 1 + (a + b) * (level + 1)
-trace-low a b level h = rw (le-leb level 1 h) refl
-
-pub trace-high : (a b level : ℕ) → 1 < level → trace a b level ≡ 12 + level
-trace-high a b level h = rw (lt-leb level 1 h) refl
 
 -- the sum of the parts, once or twice
 pub doubled-most : (a b level : ℕ) → a + b ≤ 7 → level ≤ 1 → (a + b) * (level + 1) ≤ 14

@@ -1,5 +1,5 @@
 // Each notion of specs/Contexts as a call that states what it requires.
-ghost use Rattle.std.specs.Prelude.{◌≡◌, true, ◌+◌, ◌*◌, ◌≤◌, ◌<◌, min, nat_abs, length, get_or};
+ghost use Rattle.std.specs.Prelude.{◌≡◌, true, ◌+◌, ◌*◌, ◌≤◌, ◌<◌, nat_abs, length, get_or};
 ghost use Rattle.common.specs.Tables.{lookup_passes};
 ghost use Rattle.contexts.specs.Contexts.{rate_flag, lookup_start, row_of, fits_symbol, symbol_from, next_context, pair_symbol, context_behind};
 ghost use Rattle.contexts.specs.Contexts as Contexts;
@@ -31,26 +31,14 @@ pub fn row(lookup: &[u8], start: usize, level: usize) -> usize
     requires { (lookup_passes lookup.now ≡ true) × (start < 1024) }
     ensures { result ≡ row_of lookup.now start level }
 {
-    let index = start + 1024 * cut(level);
-    lookup[index] as usize
-}
-
-fn cut(level: usize) -> usize
-    ensures { result ≡ min level 3 }
-{
-    if level < 3 { level } else { 3 }
+    usize::from(lookup[start + 1024 * level.min(3)])
 }
 
 // The magnitude of a line, -32768 included.
 pub fn magnitude(line: i16) -> usize
     ensures { result ≡ nat_abs line }
 {
-    let wide = line as i32;
-    if wide < 0 {
-        (0 - wide) as usize
-    } else {
-        wide as usize
-    }
+    usize::from(line.unsigned_abs())
 }
 
 // The magnitude of the line at a place: all that follows goes by these.
@@ -67,21 +55,19 @@ pub fn escapes(a: usize, b: usize) -> usize
     requires { (a < 65536) × (b < 65536) }
     ensures { result ≡ Contexts.escapes a b }
 {
-    let mut n = 0;
-    while !fits_symbol(a, b, n) {
-        n += 1;
+    for n in 0..14 {
+        if fits_symbol(a, b, n) {
+            return n;
+        }
     }
-    n
+    14
 }
 
 fn fits_symbol(a: usize, b: usize, n: usize) -> bool
     requires { n < 64 }
     ensures { result ≡ fits_symbol a b n }
 {
-    if 4 <= a >> n {
-        return false;
-    }
-    b >> n < 4
+    a >> n < 4 && b >> n < 4
 }
 
 // The symbol of what is left of a pair behind its escapes.
@@ -97,7 +83,7 @@ pub fn next_context(context: usize, a: usize, b: usize, level: usize) -> usize
     requires { a + b ≤ 7 }
     ensures { result ≡ next_context context a b level }
 {
-    context % 16 * 16 + trace(a, b, cut(level))
+    context % 16 * 16 + trace(a, b, level.min(3))
 }
 
 fn trace(a: usize, b: usize, level: usize) -> usize
@@ -127,18 +113,12 @@ pub fn context_behind(context: usize, a: usize, b: usize, n: usize) -> usize
     next_context(context, a >> n, b >> n, n)
 }
 
-fn minus(line: i16) -> u32
-    ensures { (result ≡ Lines.minus line) × (result < 2) }
-{
-    if line < 0 { 1 } else { 0 }
-}
-
 // The sign of the line at a place, 1 for minus.
 pub fn minus_at(lines: &[i16], k: usize) -> u32
     requires { k < length lines.now }
     ensures { (result ≡ Lines.minus (line_at lines.now k)) × (result < 2) }
 {
-    minus(lines[k])
+    u32::from(lines[k] < 0)
 }
 
 // The escapes of a pair of the lines.

@@ -21,7 +21,7 @@ fn val(low: u32, mask: u32) -> u32
     sum - sum % (mask + 1)
 }
 
-// What the reading compares with.
+// What the reading compares with: a number as in document 01, since the definitions speak of it and `vectors` hands on any.
 fn high_in(reading: usize, high: u32) -> u32
     ensures { result ≡ high_in reading high }
 {
@@ -32,17 +32,10 @@ fn high_in(reading: usize, high: u32) -> u32
 fn ending_at(st: EncoderState, bits: usize, value: u32) -> Closing
     ensures { ending_of result ≡ ending_at st bits value }
 {
-    if value < st.low {
-        return Closing {
-            bits,
-            value,
-            carry: 1,
-        };
-    }
     Closing {
         bits,
         value,
-        carry: st.carry,
+        carry: if value < st.low { 1 } else { st.carry },
     }
 }
 
@@ -57,8 +50,11 @@ pub(crate) fn ending(reading: usize, st: EncoderState) -> Closing
     let over2 = high >> 24;
     let value = val(st.low, mask);
     if over1 != over2 {
-        let carry = st.carry;
-        return Closing { bits, value, carry };
+        return Closing {
+            bits,
+            value,
+            carry: st.carry,
+        };
     }
     if value + mask < high_in(reading, high) {
         return ending_at(st, bits, value);

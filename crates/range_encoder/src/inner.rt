@@ -1,10 +1,10 @@
 // The encoder's calls, for the frame writer: each requires that the state's numbers fit, and the finish the whole invariant. What
 // sends requires room for it.
-ghost use Rattle.std.specs.Prelude.{◌≡◌, true, cond, ltb, ◌+◌, ◌*◌, ◌≤◌, ◌<◌, length};
+ghost use Rattle.std.specs.Prelude.{◌≡◌, true, ◌+◌, ◌*◌, ◌≤◌, ◌<◌, length};
 ghost use Rattle.std.proofs.lemmas.List.Edits.{sets};
-ghost use Rattle.range_encoder.specs.Encoder.{start_encoder, shifts_of, settles as Encoder·settles, shift_bytes, shifted, symbol_added, with_range, turn as Encoder·turn, turn_bytes, encoded, encoded_bytes, reserved_bits, reserved_of, forecast_of};
-ghost use Rattle.range_encoder.specs.Finish.{ended as Finish·ended, pushed, pushed_bytes, last_bits, held_bytes, last_byte, finish_bytes, finish_last, finish_bits, with_own};
-ghost use Rattle.range_encoder.specs.Private.{Fits, Sound, ending_of};
+ghost use Rattle.range_encoder.specs.Encoder.{start_encoder, shifts_of, settles as Encoder·settles, shift_bytes, shifted, symbol_added, turn as Encoder·turn, turn_bytes, encoded, encoded_bytes, reserved_bits, reserved_of, forecast_of};
+ghost use Rattle.range_encoder.specs.Finish.{pushed, pushed_bytes, last_bits, held_bytes, last_byte, finish_bytes, finish_last, finish_bits, with_own};
+ghost use Rattle.range_encoder.specs.Private.{Fits, Sound};
 
 use crate::{EncoderState, Finished};
 
@@ -25,10 +25,7 @@ pub fn ac_enc_init() -> EncoderState
 fn settles(st: EncoderState) -> bool
     ensures { result ≡ Encoder·settles st }
 {
-    if st.low < 0xff0000 {
-        return true;
-    }
-    st.carry == 1
+    st.low < 0xff0000 || st.carry == 1
 }
 
 // The byte in the cache and the 0xFFs behind it, with the carry that passes through them.
@@ -52,36 +49,18 @@ pub fn ac_shift(buf: &mut [u8], st: EncoderState) -> EncoderState
         send_held(buf, st);
         return EncoderState {
             low,
-            range: st.range,
             held: 1,
             cache: st.low / 0x10000,
             carry: 0,
             pending: 0,
             out: st.out + st.held + st.pending,
+            ..st
         };
     }
     EncoderState {
         low,
-        range: st.range,
-        held: st.held,
-        cache: st.cache,
-        carry: st.carry,
         pending: st.pending + 1,
-        out: st.out,
-    }
-}
-
-fn with_range(st: EncoderState, range: u32) -> EncoderState
-    ensures { result ≡ with_range st range }
-{
-    EncoderState {
-        low: st.low,
-        range,
-        held: st.held,
-        cache: st.cache,
-        carry: st.carry,
-        pending: st.pending,
-        out: st.out,
+        ..st
     }
 }
 
@@ -92,22 +71,12 @@ fn symbol_added(st: EncoderState, cumulative: u32, frequency: u32) -> EncoderSta
 {
     let unit = st.range >> 10;
     let low = st.low + unit * cumulative;
-    let carry = carry_of(low, st.carry);
     EncoderState {
         low: low % 0x1000000,
         range: unit * frequency,
-        held: st.held,
-        cache: st.cache,
-        carry,
-        pending: st.pending,
-        out: st.out,
+        carry: if low < 0x1000000 { st.carry } else { 1 },
+        ..st
     }
-}
-
-fn carry_of(low: u32, before: u32) -> u32
-    ensures { result ≡ cond (ltb low 0x1000000) before 1 }
-{
-    if low < 0x1000000 { before } else { 1 }
 }
 
 // One turn of the renormalising: a byte is shifted out where the range has fallen below 0x10000.
@@ -119,8 +88,10 @@ fn turn(buf: &mut [u8], st: EncoderState) -> EncoderState
     if 0x10000 <= st.range {
         return st;
     }
-    let next = ac_shift(buf, st);
-    with_range(next, st.range * 256)
+    EncoderState {
+        range: st.range * 256,
+        ..ac_shift(buf, st)
+    }
 }
 
 pub fn ac_encode(buf: &mut [u8], st: EncoderState, cumulative: u32, frequency: u32) -> EncoderState
@@ -155,20 +126,6 @@ pub fn nbits_forecast(st: EncoderState) -> usize
     ensures { result ≡ forecast_of st }
 {
     bits_for(st.out + 1 + st.pending, st.range)
-}
-
-fn ended(st: EncoderState, e: crate::ending::Closing) -> EncoderState
-    ensures { result ≡ Finish·ended st (ending_of e) }
-{
-    EncoderState {
-        low: e.value,
-        range: st.range,
-        held: st.held,
-        cache: st.cache,
-        carry: e.carry,
-        pending: st.pending,
-        out: st.out,
-    }
 }
 
 // The finish's own bits into the cache: a shift, and a second for a ninth bit.
@@ -215,7 +172,11 @@ pub fn ac_enc_finish(buf: &mut [u8], st: EncoderState, reading: usize) -> Finish
     ensures lent { buf.new ≡ with_own buf.old st.out (finish_bytes reading st) (finish_last reading st) (finish_bits reading st) }
 {
     let e = crate::ending::ending(reading, st);
-    let bits = e.bits;
-    let last = push(buf, ended(st, e), bits);
-    send_last(buf, last, last_bits(bits))
+    let ended = EncoderState {
+        low: e.value,
+        carry: e.carry,
+        ..st
+    };
+    let last = push(buf, ended, e.bits);
+    send_last(buf, last, last_bits(e.bits))
 }

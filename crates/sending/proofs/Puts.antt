@@ -43,11 +43,6 @@ unfolding put_bits
 put-all-one true f i b = refl
 put-all-one false f i b = refl
 
-pub put-all-next : (writing : Bool) (f : List ℕ) (i : ℕ) (b : Bit) (bs : List Bit) → put_all writing f i (b ∷ bs) ≡ put_all writing (cond writing (put_bit f i b.value) f) (i + 1) bs
-unfolding put_bits
-put-all-next true f i b bs = refl
-put-all-next false f i b bs = refl
-
 -- room for all is room for those before, and behind them for the rest
 pub puts-split : (writing : Bool) (f : List ℕ) (i : ℕ) (xs ys : List Bit) → Puts writing f i (length (xs ++ ys)) → Puts writing f i (length xs) × Puts writing (put_all writing f i xs) (i + length xs) (length ys)
 puts-split writing f i xs ys h =

@@ -7,13 +7,13 @@ use native.Mathlib.Omega.{arith}
 use borrow.Author.Tests.{ltb-true}
 use lib.Dec.{ltb}
 use lib.ListN.{length, length-append, get_or}
-use lib.Seq.{sets, length-sets}
+use lib.Seq.{length-sets}
 use Rattle.common.proofs.Bools.{by-test}
 use Rattle.common.specs.Tables.{cumulative}
 use Rattle.common.proofs.Cumulatives.{share-within}
 use Rattle.range_decoder.specs.Decoder.{unit_of}
 use Rattle.range_encoder.specs.Encoder.{encoded, encoded_bytes, shifts_of, symbol_added, turn}
-use Rattle.range_encoder.specs.Interval.{Sent, cumulative_of, frequency_of, part}
+use Rattle.range_encoder.specs.Interval.{Sent, cumulative_of, frequency_of}
 use Rattle.range_encoder.specs.Runs.{Passes, AllPass, none, more, state_behind}
 use Rattle.range_encoder.specs.Private.{Fits}
 use Rattle.range_encoder.specs.declared.EncoderState.{EncoderState}
@@ -67,15 +67,6 @@ counted-by s x =
     (λ e'. rw (e, e') refl)
     (λ e'. rw (e, e') refl))
     (λ e. rw (e, e) refl)
-
--- from what the code has: a symbol counted, and one sent
-pub counted-sent : (writing : Bool) (s r : EncoderState) (f : List ℕ) (row : List ℕ) (symbol frequency : ℕ) → writing ≡ false → frequency ≡ get_or row symbol 0 → r ≡ counted_by s frequency → (r ≡ sent_one writing s (sent row symbol)) × (f ≡ laid_one writing s f (sent row symbol))
-counted-sent writing s r f row symbol frequency not-writing own is =
-    rw not-writing (is ∙ ap (counted_by s) own ∙ counted-by s (sent row symbol), refl)
-
-pub encoded-sent : (writing : Bool) (s r : EncoderState) (f g : List ℕ) (row : List ℕ) (symbol below frequency : ℕ) → writing ≡ true → below ≡ cumulative row symbol → frequency ≡ get_or row symbol 0 → r ≡ encoded s below frequency → g ≡ sets f s.out (encoded_bytes s below frequency) → (r ≡ sent_one writing s (sent row symbol)) × (g ≡ laid_one writing s f (sent row symbol))
-encoded-sent writing s r f g row symbol below frequency is-writing under own state lent =
-    rw (is-writing, ← under, ← own) (state, lent)
 
 fits_wider : (s : EncoderState) → Fits s → Fits (wider_count s)
 fits_wider s h =
@@ -195,7 +186,3 @@ unfolding state_behind
 encode-ready writing s n row symbol below frequency is-writing under own h =
     rw (under, own)
     (h.fits, (ready-there writing s n (sent row symbol) [] h).0, h.room is-writing, h.short)
-
--- the wider count, for the code
-pub wider-out : (s : EncoderState) → (wider_count s).out ≤ s.out + 1
-wider-out s = by-test (ltb s.range 0x10000) (λ e. rw e (omega arith)) (λ e. rw e (omega arith))

@@ -4,46 +4,23 @@ ghost use Rattle.common.specs.Tables.{row_passes, cumulative, row_at};
 ghost use Rattle.range_encoder.specs.Private.{Fits};
 ghost use Rattle.buffer_writer.specs.Writes.{put_bit};
 ghost use Rattle.sending.specs.Sending.{sent};
-ghost use Rattle.sending.specs.Private.{Ready, Puts, sent_one, laid_one, recounted, wider_count, counted_by};
+ghost use Rattle.sending.specs.Private.{Ready, Puts, sent_one, laid_one, wider_count, counted_by};
 
 use range_encoder::EncoderState;
-
-fn wide(frequency: u16) -> u32
-    ensures { result ≡ frequency }
-{
-    frequency as u32
-}
 
 // What stands before a symbol in its row.
 fn below(row: &[u16], symbol: usize) -> u32
     requires { (symbol ≤ length row.now) × (row_passes row.now ≡ true) }
     ensures { result ≡ cumulative row.now symbol }
 {
-    let mut i = 0;
     let mut sum: u32 = 0;
-    while i < symbol {
-        sum += wide(row[i]);
-        i += 1;
+    for frequency in &row[..symbol] {
+        sum += u32::from(*frequency);
     }
     sum
 }
 
-// A count's numbers: the range, and S in the place of the bytes out.
-fn recount(st: EncoderState, range: u32, out: usize) -> EncoderState
-    ensures { result ≡ recounted st range out }
-{
-    EncoderState {
-        low: st.low,
-        range,
-        held: st.held,
-        cache: st.cache,
-        carry: st.carry,
-        pending: st.pending,
-        out,
-    }
-}
-
-// One turn of the renormalising, counted.
+// One turn of the renormalising, counted: S goes in the place of the bytes out.
 fn widen(st: EncoderState) -> EncoderState
     requires { st.out < 65535 }
     ensures { result ≡ wider_count st }
@@ -51,7 +28,11 @@ fn widen(st: EncoderState) -> EncoderState
     if 0x10000 <= st.range {
         return st;
     }
-    recount(st, st.range * 256, st.out + 1)
+    EncoderState {
+        range: st.range * 256,
+        out: st.out + 1,
+        ..st
+    }
 }
 
 fn counted(st: EncoderState, frequency: u32) -> EncoderState
@@ -59,12 +40,16 @@ fn counted(st: EncoderState, frequency: u32) -> EncoderState
     ensures { result ≡ counted_by st frequency }
 {
     let unit = st.range >> 10;
-    let part = recount(st, unit * frequency, st.out);
+    let part = EncoderState {
+        range: unit * frequency,
+        ..st
+    };
     let once = widen(part);
     widen(once)
 }
 
-// A symbol of a row.
+// A symbol of a row. `writing` stays a flag: it is tested here and in `bit` alone, and a trait of two types would put ghost members and
+// a bound into twelve signatures.
 fn of_row(
     buf: &mut [u8],
     st: EncoderState,
@@ -76,7 +61,7 @@ fn of_row(
     ensures state { result ≡ sent_one writing st (sent row.now symbol) }
     ensures lent { buf.new ≡ laid_one writing st buf.old (sent row.now symbol) }
 {
-    let frequency = wide(row[symbol]);
+    let frequency = u32::from(row[symbol]);
     if !writing {
         return counted(st, frequency);
     }

@@ -1,6 +1,5 @@
 -- `inner::context_behind` meets its contract: the parts of the pair's symbol are what its escapes leave.
 -- Assumes nothing.
-use mathlib.Core.Path.{refl}
 use native.Mathlib.Omega.{arith}
 use Rattle.contexts.proofs.Escapes.{Escaped, escaped-at}
 use Rattle.contexts.proofs.inner.context_behind.Goals as goal
@@ -17,6 +16,3 @@ overflow_shr-b c = omega (arith, (law c).most)
 
 pub next_context-requires : goal.next_context-requires
 next_context-requires c = omega (arith, (law c).first, (law c).second)
-
-pub returns : goal.returns
-returns c = rw (c.next_context.ensures, c.requires.2) refl

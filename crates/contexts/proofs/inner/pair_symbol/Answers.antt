@@ -1,6 +1,5 @@
 -- `inner::pair_symbol` meets its contract: behind its escapes what is left of both magnitudes is below 4.
 -- Assumes nothing.
-use mathlib.Core.Path.{refl}
 use native.Mathlib.Omega.{arith}
 use Rattle.contexts.proofs.Escapes.{Escaped, escaped-at}
 use Rattle.contexts.proofs.inner.pair_symbol.Goals as goal
@@ -17,6 +16,3 @@ overflow_shr-b c = omega (arith, (law c).most)
 
 pub symbol-requires : goal.symbol-requires
 symbol-requires c = ((law c).first, (law c).second)
-
-pub returns : goal.returns
-returns c = rw (c.symbol.ensures, c.requires.2) refl
