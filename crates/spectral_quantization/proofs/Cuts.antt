@@ -124,10 +124,6 @@ bits-cut : (b : ℕ) → T (not (is_nan (of_bits binary32 b)))
 unfolding of_bits
 bits-cut b number = fields-cut (leb (2 ^ 31) b) (b % 2 ^ 23) (mod-lt b (pow_pos 23)) (b % 2 ^ 31 / 2 ^ 23) number
 
--- the digits are 23 bits
-pub digits-masked : (b : ℕ) → bit_and b (2 ^ 23 - 1) < 2 ^ 23
-digits-masked b = rw (and_mask b 23) (mod-lt b (pow_pos 23))
-
 -- what the code reckons of a pattern is the value, cut
 module _ (v : Float) (fit : T (fits binary32 v)) (number : T (not (is_nan v))) where
   abbrev b : ℕ

@@ -1,15 +1,14 @@
 -- What one energy adds, the walk over all of them, and what the target allows, as the code goes. Its constants are given by their
 -- bits, and compute to the definition's. Assumes nothing.
-use mathlib.Core.Path.{◌≡◌, refl, sym, ap, ◌∙◌}
+use mathlib.Core.Path.{◌≡◌, refl, ap}
 use mathlib.Core.Bool.{true, false, not}
-use mathlib.Core.List.{List}
-use Prim.Native.Nat.{ℕ, suc, ◌-◌, ◌^◌, ◌≤◌, ◌<◌}
+use mathlib.Core.List.{List, [], ◌∷◌, ◌++◌}
+use Prim.Native.Nat.{ℕ, ◌^◌, ◌≤◌}
 use native.Mathlib.Omega.{arith}
 use lib.Dec.{T, le→leb}
 use lib.IntN.{pos}
-use lib.ListN.{length, get_or, drop}
-use lib.Seq.{drop-length, drop-cons}
-use lib.Ieee.{Float, nan, binary32, lt, of_int, in_float}
+use lib.ListN.{length}
+use lib.Ieee.{Float, binary32, lt, of_int, in_float}
 use Rattle.spectral_quantization.specs.Single.{◌+ᶠ◌, ◌-ᶠ◌, ◌*ᶠ◌, constant}
 use Rattle.spectral_quantization.specs.Gain.{scaled, below, near_cost, far_cost, all_below, cost_at, exceeds}
 use Rattle.spectral_quantization.specs.Private.{cost_of_all, cost_with}
@@ -42,26 +41,29 @@ module _ (level energy : Float) (cost : Cost) where
 
 -- ---- the walk, from the last energy to the first
 
-module _ (level : Float) (energies : List Float) where
-  -- at its start no energy is left behind
-  pub walk_start : record { bits = constant 0 1; zero = true } ≡ cost_of_all level (drop (length energies) energies)
-  unfolding cost_at all_below
-  walk_start = rw (drop-length energies) refl
+module _ (level : Float) where
+  -- what energies cost that are walked from a cost on
+  unfoldable pub walked : List Float → Cost → Cost
+  walked [] cost = cost
+  walked (energy ∷ rest) cost = cost_with level energy (walked rest cost)
 
-  -- a turn takes the energy before those that were walked
-  pub walk_turn : (left : ℕ) → 0 < left → left ≤ length energies
-      → cost_with level (get_or energies (left - 1) nan) (cost_of_all level (drop left energies)) ≡ cost_of_all level (drop (left - 1) energies)
-  unfolding cost_at all_below
-  walk_turn left some fits =
-      ap (λ (n : ℕ). cost_with level (get_or energies (left - 1) nan) (cost_of_all level (drop n energies))) back
-      ∙ sym (ap (cost_of_all level) (drop-cons energies (left - 1) nan (omega arith)))
-    where
-      back : left ≡ suc (left - 1)
-      back = omega arith
+  -- from no cost on it is what they cost
+  pub walk_start : (energies : List Float) → walked energies (record { bits = constant 0 1; zero = true }) ≡ cost_of_all level energies
+  unfolding walked cost_at all_below
+  walk_start [] = refl
+  walk_start (energy ∷ rest) = ap (cost_with level energy) (walk_start rest)
 
-  -- at its end all were walked
-  pub walk_end : (left : ℕ) → left ≡ 0 → cost_of_all level (drop left energies) ≡ cost_of_all level energies
-  walk_end left h = ap (λ (n : ℕ). cost_of_all level (drop n energies)) h
+  -- a turn takes the last
+  pub walk_turn : (rest : List Float) (energy : Float) (cost : Cost) → walked (rest ++ energy ∷ []) cost ≡ walked rest (cost_with level energy cost)
+  unfolding walked
+  walk_turn [] energy cost = refl
+  walk_turn (x ∷ rest) energy cost = ap (cost_with level x) (walk_turn rest energy cost)
+
+  -- at its end none is left
+  pub walk_end : (rest : List Float) (cost : Cost) → length rest ≡ 0 → cost ≡ walked rest cost
+  unfolding walked
+  walk_end [] cost h = refl
+  walk_end (x ∷ rest) cost h = absurd (omega arith)
 
 -- ---- the target
 

@@ -3,12 +3,10 @@ pub mod Signs
 pub mod Cuts
 pub mod Energies
 pub mod Turns
-pub mod Answers
 pub mod Hand
 pub mod Unique
 pub mod Costs
 pub mod LastPairs
 pub mod Runs
-pub mod Refusals
 pub mod Meanings
 pub mod EstimateUnique

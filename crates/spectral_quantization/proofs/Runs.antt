@@ -9,10 +9,9 @@ use native.Mathlib.Numerals.{add-one}
 use Rattle.common.proofs.Bools.{by-test}
 use Rattle.contexts.specs.Contexts.{lookup_start, context_behind}
 use Rattle.contexts.proofs.Lookups.{behind-most}
-use Rattle.spectral_quantization.specs.declared.estimate.BitConsumption.{BitConsumption}
 use Rattle.spectral_quantization.specs.declared.estimate.Frame.{Frame}
 use Rattle.spectral_quantization.specs.declared.estimate.Running.{Running}
-use Rattle.spectral_quantization.specs.Estimate.{whole_bits, sum_below, up_to_last, pair_cost, least_bits, first, second, pairs_of, context_at, kept, consumption}
+use Rattle.spectral_quantization.specs.Estimate.{sum_below, up_to_last, pair_cost, least_bits, first, second, context_at, kept}
 use Rattle.spectral_quantization.specs.Private.{keeps, running_at, on_pair, Bounded}
 
 -- what the parts of the step found: the pair's cost, its least bits and the context behind it
@@ -73,7 +72,3 @@ module _ (lookup bits : List ℕ) (f : Frame) (xs : List ℕ) where
       by-test (kept xs lookup bits f.ne f.rate f.mode f.target p)
       (λ t. rw (add-one, on_pair, t, ← lines) refl)
       (λ t. rw (add-one, on_pair, t) refl)
-
-  -- the numbers returned, by what was found on the way
-  pub numbers-are : (pairs whole trunc : ℕ) (s : Running) → pairs ≡ pairs_of xs → s ≡ running_at lookup bits f xs pairs → whole ≡ whole_bits s.sum → trunc ≡ whole_bits s.kept → ◌≡◌ {A = BitConsumption} (record { rate_flag = f.rate; mode_flag = f.mode; lastnz = 2 * pairs; lastnz_trunc = s.place; nbits_est = whole + s.least; nbits_trunc = trunc; nbits_lsb = s.least }) (consumption xs lookup bits f.ne f.rate f.mode f.target)
-  numbers-are pairs whole trunc s n e w t = rw (w, t, e, n) refl

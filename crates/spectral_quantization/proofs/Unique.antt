@@ -5,21 +5,19 @@ use mathlib.Core.Path.{◌≡◌, refl}
 use mathlib.Core.Bool.{cond}
 use lib.Dec.{eqb}
 use lib.ListN.{get_or}
-use Rattle.common.specs.Reply.{Answer, accepted, refused}
-use Rattle.common.proofs.Unique.{from_back}
-use Rattle.spectral_quantization.specs.Gain.{gain_of}
-use Rattle.spectral_quantization.specs.declared.gain.GainSearch.{GainSearch}
-use Rattle.spectral_quantization.specs.declared.gain.GainSearch.TheVariants.{Index, OutsideLimits, WrongCount}
+use Rattle.std.specs.Prelude.{Result}
+use Rattle.common.specs.Reply.{Reply, answer_by}
+use Rattle.common.proofs.Unique.{result-unique}
+use Rattle.spectral_quantization.specs.Gain.{reply_of}
+use Rattle.spectral_quantization.specs.declared.gain.GainError.{GainError}
+use Rattle.spectral_quantization.specs.declared.gain.GainError.TheVariants.{OutsideLimits, WrongCount}
 
-gain_back : Answer ℕ → GainSearch
-gain_back (accepted index) = Index index
-gain_back (refused r) = cond (eqb r.number 1) OutsideLimits (WrongCount (get_or r.values 0 0))
+abbrev error_back : Reply → GainError
+error_back r = cond (eqb r.number 1) OutsideLimits (WrongCount (get_or r.values 0 0))
 
-gain-found : (r : GainSearch) → gain_back (gain_of r) ≡ r
-unfolding gain_back
-gain-found (Index index) = refl
-gain-found OutsideLimits = refl
-gain-found (WrongCount count) = refl
+error-back : (e : GainError) → error_back (reply_of e) ≡ e
+error-back OutsideLimits = refl
+error-back (WrongCount count) = refl
 
-pub gain-unique : (a b : GainSearch) → gain_of a ≡ gain_of b → a ≡ b
-gain-unique = from_back gain_of gain_back gain-found
+pub gain-unique : (a b : Result ℕ GainError) → answer_by reply_of a ≡ answer_by reply_of b → a ≡ b
+gain-unique = result-unique reply_of error_back error-back

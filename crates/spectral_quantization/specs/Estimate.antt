@@ -2,15 +2,13 @@
 -- Costs are in 2,048ths of a bit. Context, escapes and symbol are those that the frame is read and written by.
 use Rattle.std.specs.Prelude.{ℕ, zero, suc, ◌+◌, ◌*◌, ◌/◌, max, Bool, cond, not, ◌&&◌, List, leb, ltb, eqb, length, get_or, ℤ}
 use Rattle.common.specs.Configuration.{frame_lines}
-use Rattle.common.specs.Reply.{Reply, Answer, accepted, refused, given, and_then, outside_limits, wrong_length, tables_fail, wrong_count}
+use Rattle.common.specs.Reply.{Reply, Answer, accepted, given, and_then, outside_limits, wrong_length, tables_fail, wrong_count}
 use Rattle.common.specs.Tables.{Tables, tables_pass}
 use Rattle.common.specs.declared.configuration.Configuration.{Configuration}
 use Rattle.contexts.specs.Contexts.{rate_flag, lookup_start, row_of, magnitudes, escapes, escape_symbol, pair_symbol, context_behind}
 use Rattle.spectral_quantization.specs.declared.estimate.BitConsumption.{BitConsumption}
 use Rattle.spectral_quantization.specs.declared.estimate.EstimateError.{EstimateError}
 use Rattle.spectral_quantization.specs.declared.estimate.EstimateError.TheVariants.{OutsideLimits, WrongLength, TablesFail, WrongCount}
-use Rattle.spectral_quantization.specs.declared.estimate.Estimated.{Estimated}
-use Rattle.spectral_quantization.specs.declared.estimate.Estimated.TheVariants.{Bits, Refused}
 
 -- "exact ceilings": whole bits of a sum
 abbrev pub whole_bits : ℕ → ℕ
@@ -136,7 +134,3 @@ reply_of OutsideLimits = outside_limits
 reply_of (WrongLength bytes) = wrong_length bytes
 reply_of TablesFail = tables_fail
 reply_of (WrongCount count) = wrong_count count
-
-abbrev pub estimated_of : Estimated → Answer BitConsumption
-estimated_of (Bits b) = accepted b
-estimated_of (Refused e) = refused (reply_of e)

@@ -3,10 +3,10 @@
 use Rattle.std.specs.Prelude.{ℕ, zero, suc, ◌+◌, ◌-◌, ◌/◌, Bool, true, not, ◌&&◌, cond, List, [], ◌∷◌, ltb, length, ℤ, pos, Float}
 use Rattle.std.specs.Float.{binary32}
 use Rattle.std.specs.Float.Ieee.{lt, of_int}
-use Rattle.common.specs.Reply.{Answer, accepted, refused, given, outside_limits, wrong_count}
+use Rattle.common.specs.Reply.{Reply, Answer, accepted, given, outside_limits, wrong_count}
 use Rattle.spectral_quantization.specs.Single.{◌+ᶠ◌, ◌-ᶠ◌, ◌*ᶠ◌, ◌/ᶠ◌, constant}
-use Rattle.spectral_quantization.specs.declared.gain.GainSearch.{GainSearch}
-use Rattle.spectral_quantization.specs.declared.gain.GainSearch.TheVariants.{Index, OutsideLimits, WrongCount}
+use Rattle.spectral_quantization.specs.declared.gain.GainError.{GainError}
+use Rattle.spectral_quantization.specs.declared.gain.GainError.TheVariants.{OutsideLimits, WrongCount}
 
 -- the source's `* 28.0 / 20.0`
 abbrev pub scaled : Float → Float
@@ -70,7 +70,7 @@ gain_for energies offset target =
     (given (ltb 100 (length energies)) (wrong_count (length energies))
     (accepted (searched energies (of_int binary32 offset) target)))
 
-abbrev pub gain_of : GainSearch → Answer ℕ
-gain_of (Index index) = accepted index
-gain_of OutsideLimits = refused outside_limits
-gain_of (WrongCount count) = refused (wrong_count count)
+-- document 01's number and values of each refusal
+abbrev pub reply_of : GainError → Reply
+reply_of OutsideLimits = outside_limits
+reply_of (WrongCount count) = wrong_count count

@@ -1,12 +1,15 @@
 // The bit estimate: a sum over the pairs of lines, in 2,048ths of a bit, by the contexts that the frame is written with.
 ghost use Rattle.std.specs.Prelude.{◌≡◌, ◌+◌, ◌*◌, ◌≤◌, ◌<◌, length};
+ghost use Rattle.common.specs.Reply.{answer_by};
+ghost use Rattle.common.specs.TableSets.{set_of};
 ghost use Rattle.contexts.specs.Contexts.{magnitudes, escapes};
-ghost use Rattle.spectral_quantization.specs.Estimate.{whole_bits, tail_cost, sign_cost, symbol_cost, escapes_cost, pair_cost, one_sign, least_bits, is_zero, zero_at, pairs_of, estimate, estimated_of};
+ghost use Rattle.spectral_quantization.specs.Estimate.{whole_bits, tail_cost, sign_cost, symbol_cost, escapes_cost, pair_cost, least_bits, is_zero, zero_at, pairs_of, estimate, reply_of};
 ghost use Rattle.spectral_quantization.specs.Estimate as Estimate;
-ghost use Rattle.spectral_quantization.specs.Private.{frame_of, Rows, running_at, on_pair, Bounded};
+ghost use Rattle.spectral_quantization.specs.Private.{of_configuration, frame_of, running_at, on_pair, Bounded};
 ghost use Rattle.spectral_quantization.specs.Private as Private;
 
-use common::configuration::{Configuration, FrameLines};
+use common::configuration::{Configuration, ConfigurationError};
+use common::table_set::{PassedSet, TableSet};
 use contexts::inner;
 
 // All the numbers that the source returns.
@@ -30,10 +33,15 @@ pub enum EstimateError {
     WrongCount(usize),
 }
 
-#[derive(Clone, Copy)]
-pub enum Estimated {
-    Bits(BitConsumption),
-    Refused(EstimateError),
+impl From<ConfigurationError> for EstimateError {
+    ghost from_gives = { λ e r. r ≡ of_configuration e };
+
+    fn from(e: ConfigurationError) -> EstimateError {
+        match e {
+            ConfigurationError::OutsideLimits => EstimateError::OutsideLimits,
+            ConfigurationError::WrongLength(length) => EstimateError::WrongLength(length),
+        }
+    }
 }
 
 // What a frame is estimated by.
@@ -59,34 +67,22 @@ pub(crate) struct Running {
 pub fn compute_bit_consumption(
     configuration: Configuration,
     bytes: usize,
-    lookup: &[u8],
-    frequencies: &[u16],
-    bits: &[u16],
-    orders: &[u16],
-    coefficients: &[u16],
+    tables: &TableSet,
     target: usize,
     lines: &[i16],
-) -> Estimated
-    ensures { estimated_of result ≡ estimate configuration bytes (record { lookup = lookup.now; frequencies = frequencies.now; bits = bits.now; orders = orders.now; coefficients = coefficients.now }) target lines.now }
+) -> Result<BitConsumption, EstimateError>
+    ensures { answer_by reply_of result ≡ estimate configuration bytes (set_of tables.now) target lines.now }
 {
     if 65535 < target {
-        return Estimated::Refused(EstimateError::OutsideLimits);
+        return Err(EstimateError::OutsideLimits);
     }
-    match configuration.frame_lines(bytes) {
-        FrameLines::OutsideLimits => Estimated::Refused(EstimateError::OutsideLimits),
-        FrameLines::WrongLength(length) => Estimated::Refused(EstimateError::WrongLength(length)),
-        FrameLines::Encoded(ne) => {
-            if !common::tables::tables_pass(lookup, frequencies, bits, orders, coefficients) {
-                return Estimated::Refused(EstimateError::TablesFail);
-            }
-            let count = lines.len();
-            if count != ne {
-                return Estimated::Refused(EstimateError::WrongCount(count));
-            }
-            let frame = frame_of(configuration.fs_ind, bytes, ne, target);
-            Estimated::Bits(consumption(lookup, bits, frame, lines))
-        }
+    let ne = configuration.frame_lines(bytes)?;
+    let passed = tables.passed().ok_or(EstimateError::TablesFail)?;
+    if lines.len() != ne {
+        return Err(EstimateError::WrongCount(lines.len()));
     }
+    let frame = frame_of(configuration.fs_ind, bytes, ne, target);
+    Ok(consumption(&passed, frame, lines))
 }
 
 // What a frame of so many bytes is estimated by.
@@ -102,12 +98,12 @@ fn frame_of(fs_ind: usize, bytes: usize, ne: usize, target: usize) -> Frame
     }
 }
 
-fn consumption(lookup: &[u8], bits: &[u16], frame: Frame, lines: &[i16]) -> BitConsumption
-    requires { Rows lookup.now bits.now × (frame.rate ≤ 512) × (60 ≤ length lines.now) × (length lines.now ≤ 400) }
-    ensures { result ≡ Estimate.consumption (magnitudes lines.now) lookup.now bits.now frame.ne frame.rate frame.mode frame.target }
+fn consumption(tables: &PassedSet, frame: Frame, lines: &[i16]) -> BitConsumption
+    requires { (frame.rate ≤ 512) × (60 ≤ length lines.now) × (length lines.now ≤ 400) }
+    ensures { result ≡ Estimate.consumption (magnitudes lines.now) tables.now.lookup.now tables.now.bits.now frame.ne frame.rate frame.mode frame.target }
 {
     let pairs = coded_pairs(lines);
-    let s = run(lookup, bits, frame, lines, pairs);
+    let s = run(tables, frame, lines, pairs);
     BitConsumption {
         rate_flag: frame.rate,
         mode_flag: frame.mode,
@@ -125,14 +121,12 @@ fn coded_pairs(lines: &[i16]) -> usize
     ensures value { result ≡ pairs_of (magnitudes lines.now) }
     ensures within { 2 * result ≤ length lines.now }
 {
-    let mut pairs = lines.len() / 2;
-    while 1 < pairs {
-        if !pair_is_zero(lines, pairs - 1) {
-            return pairs;
+    for p in (1..lines.len() / 2).rev() {
+        if !pair_is_zero(lines, p) {
+            return p + 1;
         }
-        pairs -= 1;
     }
-    pairs
+    1
 }
 
 fn pair_is_zero(lines: &[i16], p: usize) -> bool
@@ -149,16 +143,13 @@ fn pair_is_zero(lines: &[i16], p: usize) -> bool
 fn is_zero(a: usize, b: usize) -> bool
     ensures { result ≡ is_zero a b }
 {
-    if a != 0 {
-        return false;
-    }
-    b == 0
+    a == 0 && b == 0
 }
 
 // The running numbers behind so many pairs.
-fn run(lookup: &[u8], bits: &[u16], frame: Frame, lines: &[i16], pairs: usize) -> Running
-    requires { Rows lookup.now bits.now × (frame.rate ≤ 512) × (2 * pairs ≤ length lines.now) × (length lines.now ≤ 400) }
-    ensures value { result ≡ running_at lookup.now bits.now frame (magnitudes lines.now) pairs }
+fn run(tables: &PassedSet, frame: Frame, lines: &[i16], pairs: usize) -> Running
+    requires { (frame.rate ≤ 512) × (2 * pairs ≤ length lines.now) × (length lines.now ≤ 400) }
+    ensures value { result ≡ running_at tables.now.lookup.now tables.now.bits.now frame (magnitudes lines.now) pairs }
     ensures bounds { Bounded pairs result }
 {
     let mut s = Running {
@@ -168,107 +159,92 @@ fn run(lookup: &[u8], bits: &[u16], frame: Frame, lines: &[i16], pairs: usize) -
         kept: 0,
         context: 0,
     };
-    let mut p = 0;
-    while p < pairs {
+    for p in 0..pairs {
         let a = inner::magnitude_at(lines, 2 * p);
         let b = inner::magnitude_at(lines, 2 * p + 1);
-        s = on_pair(lookup, bits, frame, p, a, b, s);
-        p += 1;
+        s = on_pair(tables, frame, p, a, b, s);
     }
     s
 }
 
 // The running numbers behind one pair more.
 fn on_pair(
-    lookup: &[u8],
-    bits: &[u16],
+    tables: &PassedSet,
     frame: Frame,
     p: usize,
     a: usize,
     b: usize,
     s: Running,
 ) -> Running
-    requires { Rows lookup.now bits.now × (frame.rate ≤ 512) × (p < 200) × (a ≤ 32768) × (b ≤ 32768) × Bounded p s }
-    ensures value { result ≡ on_pair lookup.now bits.now frame p a b s }
+    requires { (frame.rate ≤ 512) × (p < 200) × (a ≤ 32768) × (b ≤ 32768) × Bounded p s }
+    ensures value { result ≡ on_pair tables.now.lookup.now tables.now.bits.now frame p a b s }
     ensures bounds { Bounded (p + 1) result }
 {
     let n = inner::escapes(a, b);
     let start = inner::lookup_start(s.context, frame.rate, frame.ne, 2 * p);
-    let sum = s.sum + pair_cost(lookup, bits, frame.mode, start, a, b, n);
-    let least = s.least + least_bits(frame.mode, a, b, n);
-    let context = inner::context_behind(s.context, a, b, n);
+    let sum = s.sum + pair_cost(tables, frame.mode, start, a, b, n);
+    let next = Running {
+        sum,
+        least: s.least + least_bits(frame.mode, a, b, n),
+        context: inner::context_behind(s.context, a, b, n),
+        ..s
+    };
     if keeps(frame.target, a, b, sum) {
         Running {
-            sum,
-            least,
             place: 2 * p + 2,
             kept: sum,
-            context,
+            ..next
         }
     } else {
-        Running {
-            sum,
-            least,
-            place: s.place,
-            kept: s.kept,
-            context,
-        }
+        next
     }
 }
 
 fn pair_cost(
-    lookup: &[u8],
-    bits: &[u16],
+    tables: &PassedSet,
     mode: bool,
     start: usize,
     a: usize,
     b: usize,
     n: usize,
 ) -> u32
-    requires { Rows lookup.now bits.now × (start < 1024) × (a ≤ 32768) × (b ≤ 32768) × (n ≡ escapes a b) }
-    ensures value { result ≡ pair_cost lookup.now bits.now mode start a b }
+    requires { (start < 1024) × (a ≤ 32768) × (b ≤ 32768) × (n ≡ escapes a b) }
+    ensures value { result ≡ pair_cost tables.now.lookup.now tables.now.bits.now mode start a b }
     ensures most { result ≤ 1044465 }
 {
     let symbol = inner::pair_symbol(a, b, n);
-    escapes_cost(lookup, bits, mode, start, n)
-        + symbol_cost(lookup, bits, start, n, symbol)
+    escapes_cost(tables, mode, start, n)
+        + symbol_cost(tables, start, n, symbol)
         + sign_cost(a)
         + sign_cost(b)
 }
 
-fn escapes_cost(lookup: &[u8], bits: &[u16], mode: bool, start: usize, n: usize) -> u32
-    requires { Rows lookup.now bits.now × (start < 1024) × (n ≤ 14) }
-    ensures value { result ≡ escapes_cost lookup.now bits.now mode start n }
+fn escapes_cost(tables: &PassedSet, mode: bool, start: usize, n: usize) -> u32
+    requires { (start < 1024) × (n ≤ 14) }
+    ensures value { result ≡ escapes_cost tables.now.lookup.now tables.now.bits.now mode start n }
     ensures most { result ≤ 69631 * n }
 {
     let mut cost: u32 = 0;
-    let mut level = 0;
-    while level < n {
-        cost += symbol_cost(lookup, bits, start, level, 16) + tail_cost(mode, level);
-        level += 1;
+    for level in 0..n {
+        cost += symbol_cost(tables, start, level, 16) + tail_cost(mode, level);
     }
     cost
 }
 
-fn symbol_cost(lookup: &[u8], bits: &[u16], start: usize, level: usize, symbol: usize) -> u32
-    requires { Rows lookup.now bits.now × (start < 1024) × (symbol ≤ 16) }
-    ensures value { result ≡ symbol_cost lookup.now bits.now start level symbol }
+fn symbol_cost(tables: &PassedSet, start: usize, level: usize, symbol: usize) -> u32
+    requires { (start < 1024) × (symbol ≤ 16) }
+    ensures value { result ≡ symbol_cost tables.now.lookup.now tables.now.bits.now start level symbol }
     ensures most { result ≤ 65535 }
 {
-    let index = 17 * inner::row(lookup, start, level) + symbol;
-    bits[index] as u32
+    let index = 17 * inner::row(tables.lookup, start, level) + symbol;
+    u32::from(tables.bits[index])
 }
 
 fn tail_cost(mode: bool, level: usize) -> u32
     ensures value { result ≡ tail_cost mode level }
     ensures most { result ≤ 4096 }
 {
-    if mode {
-        if level == 0 {
-            return 0;
-        }
-    }
-    4096
+    if mode && level == 0 { 0 } else { 4096 }
 }
 
 fn sign_cost(a: usize) -> u32
@@ -283,19 +259,11 @@ fn least_bits(mode: bool, a: usize, b: usize, n: usize) -> usize
     ensures value { result ≡ least_bits mode a b }
     ensures most { result ≤ 4 }
 {
-    if mode {
-        if 0 < n {
-            return 2 + one_sign(a) + one_sign(b);
-        }
+    if mode && 0 < n {
+        2 + usize::from(a == 1) + usize::from(b == 1)
+    } else {
+        0
     }
-    0
-}
-
-fn one_sign(a: usize) -> usize
-    ensures value { result ≡ one_sign a }
-    ensures most { result ≤ 1 }
-{
-    if a == 1 { 1 } else { 0 }
 }
 
 // Whether the lines up to this pair are kept.
@@ -303,10 +271,7 @@ fn keeps(target: usize, a: usize, b: usize, sum: u32) -> bool
     requires { sum ≤ 208893000 }
     ensures { result ≡ Private.keeps target a b sum }
 {
-    if is_zero(a, b) {
-        return false;
-    }
-    whole_bits(sum) <= target
+    !is_zero(a, b) && whole_bits(sum) <= target
 }
 
 // The ceiling of a sum over 2,048.
@@ -314,5 +279,5 @@ fn whole_bits(sum: u32) -> usize
     requires { sum ≤ 208893000 }
     ensures { result ≡ whole_bits sum }
 {
-    ((sum + 2047) / 2048) as usize
+    sum.div_ceil(2048) as usize
 }

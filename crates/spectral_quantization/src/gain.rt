@@ -1,12 +1,12 @@
 // The search for the gain index: eight halvings, each judged by what the energies cost at its level.
 ghost use Rattle.std.specs.Prelude.{◌≡◌, ◌+◌, ◌≤◌};
-ghost use Rattle.spectral_quantization.specs.Gain.{gain_of, gain_for, searched, turn as Gain·turn, exceeds as Gain·exceeds};
+ghost use Rattle.common.specs.Reply.{answer_by};
+ghost use Rattle.spectral_quantization.specs.Gain.{reply_of, gain_for, searched, turn as Gain·turn, exceeds as Gain·exceeds};
 ghost use Rattle.spectral_quantization.specs.Private.{cost_of_all, cost_with};
 
-// The gain index, or refusal 1 or 4.
+// Why the search refuses: 1 and 4 of document 01.
 #[derive(Clone, Copy)]
-pub enum GainSearch {
-    Index(u8),
+pub enum GainError {
     OutsideLimits,
     WrongCount(usize),
 }
@@ -18,16 +18,16 @@ struct Cost {
     zero: bool,
 }
 
-pub fn gain_index(energies: &[f32], offset: i16, target: usize) -> GainSearch
-    ensures { gain_of result ≡ gain_for energies.now offset target }
+pub fn gain_index(energies: &[f32], offset: i16, target: usize) -> Result<u8, GainError>
+    ensures { answer_by reply_of result ≡ gain_for energies.now offset target }
 {
     if 65535 < target {
-        return GainSearch::OutsideLimits;
+        return Err(GainError::OutsideLimits);
     }
     if 100 < energies.len() {
-        return GainSearch::WrongCount(energies.len());
+        return Err(GainError::WrongCount(energies.len()));
     }
-    GainSearch::Index(search(energies, offset as f32, target) as u8)
+    Ok(search(energies, f32::from(offset), target) as u8)
 }
 
 // The index stays between 0 and 255, so it is held without a sign. The offset comes as a float: its cast is exact.
@@ -48,7 +48,7 @@ fn turn(energies: &[f32], offset: f32, target: usize, fac: u16, index: u16) -> u
     requires { (target ≤ 65535) × (index + fac ≤ 255) }
     ensures { result ≡ Gain·turn energies.now offset target fac index }
 {
-    if exceeds(energies, index as f32 + offset, target) {
+    if exceeds(energies, f32::from(index) + offset, target) {
         index + fac
     } else {
         index
@@ -60,25 +60,18 @@ fn exceeds(energies: &[f32], level: f32, target: usize) -> bool
     ensures { result ≡ Gain·exceeds energies.now level target }
 {
     let cost = cost_at(energies, level);
-    if cost.bits > target as f32 * 1.4 * 28.0 / 20.0 {
-        !cost.zero
-    } else {
-        false
-    }
+    cost.bits > target as f32 * 1.4 * 28.0 / 20.0 && !cost.zero
 }
 
 fn cost_at(energies: &[f32], level: f32) -> Cost
     ensures { result ≡ cost_of_all level energies.now }
 {
-    let n = energies.len();
-    let mut left = n;
     let mut cost = Cost {
         bits: 0.0,
         zero: true,
     };
-    while 0 < left {
-        cost = with_energy(level, energies[left - 1], cost);
-        left -= 1;
+    for &energy in energies.iter().rev() {
+        cost = with_energy(level, energy, cost);
     }
     cost
 }

@@ -7,8 +7,5 @@ use Rattle.contexts.specs.Contexts.{magnitudes}
 use Rattle.spectral_quantization.proofs.LastPairs.{coded_of}
 use Rattle.spectral_quantization.proofs.estimate.coded_pairs.Given as goal
 
-abbrev pub invariant-loop-pairs : goal.invariant-loop-pairs
-invariant-loop-pairs l = (1 ≤ l.pairs) × (2 * l.pairs ≤ length l.lines) × (coded_of (magnitudes l.lines) l.pairs ≡ coded_of (magnitudes l.lines) (length (magnitudes l.lines) / 2))
-
-abbrev pub decreases-loop-pairs : goal.decreases-loop-pairs
-decreases-loop-pairs l = l.pairs
+abbrev pub invariant-loop-p : goal.invariant-loop-p
+invariant-loop-p l = (1 ≤ l.p) × (2 * l.p ≤ length l.lines) × (coded_of (magnitudes l.lines) l.p ≡ coded_of (magnitudes l.lines) (length (magnitudes l.lines) / 2))

@@ -1,20 +1,16 @@
 -- `estimate::symbol_cost` meets its contract: a row of the lookup is at most 63, so its 17 entries lie within the 1,088.
 -- Assumes nothing.
 use Prim.Native.Nat.{◌+◌, ◌*◌, ◌≤◌, ◌<◌}
-use mathlib.Core.Path.{refl}
 use native.Mathlib.Omega.{arith}
 use lib.ListN.{get_or}
+use Rattle.common.proofs.Sets.{lookup-passed, bits-passed}
 use Rattle.contexts.proofs.Lookups.{row_low}
 use Rattle.spectral_quantization.proofs.estimate.symbol_cost.Goals as goal
 use Rattle.spectral_quantization.proofs.estimate.symbol_cost.Goals.{After-row}
 
 -- the row that was found
 row-most : (c : After-row) → c.row.result ≤ 63
-row-most c = omega (arith, c.row.ensures, row_low c.args.lookup.now c.requires.0.passes c.args.start c.args.level)
-
--- the entry, a 16-bit number
-entry : (c : After-row) → get_or c.args.bits.now (17 * c.row.result + c.args.symbol) 0 < 65536
-entry c = (c.type_inv.bits (17 * c.row.result + c.args.symbol)).fits
+row-most c = omega (arith, c.row.ensures, row_low c.args.tables.now.lookup.now (lookup-passed _ c.args.tables.now.passed) c.args.start c.args.level)
 
 pub overflow_mul-index : goal.overflow_mul-index
 overflow_mul-index c = record { fits = omega (arith, row-most c) }
@@ -22,14 +18,8 @@ overflow_mul-index c = record { fits = omega (arith, row-most c) }
 pub overflow_add-index : goal.overflow_add-index
 overflow_add-index c = record { fits = omega (arith, row-most c) }
 
-pub offset_bounds-bits-index : goal.offset_bounds-bits-index
-offset_bounds-bits-index c = record { fits = omega (arith, row-most c) }
+pub offset_bounds-tables-index : goal.offset_bounds-tables-index
+offset_bounds-tables-index c = record { fits = omega (arith, row-most c) }
 
-pub bounds-bits-index : goal.bounds-bits-index
-bounds-bits-index c = omega (arith, row-most (goal.at.bounds-bits-index c).After-row, c.requires.0.size)
-
-pub overflow_cast-result : goal.overflow_cast-result
-overflow_cast-result c = record { fits = omega (arith, entry (goal.at.overflow_cast-result c).After-row) }
-
-pub returns : goal.returns
-returns c = record { value = rw c.row.ensures refl; most = omega (arith, entry (goal.at.returns c).After-row) }
+pub bounds-tables-index : goal.bounds-tables-index
+bounds-tables-index c = omega (arith, row-most (goal.at.bounds-tables-index c).After-row, bits-passed _ c.args.tables.now.passed)

@@ -1,29 +1,25 @@
--- `gain::cost_at` meets its contract: the invariant says that the cost so far is that of the energies from `left` on, and the
--- measure is what is left. Assumes nothing.
-use mathlib.Core.Path.{ap, ◌∙◌}
-use Prim.Native.Nat.{◌-◌}
-use native.Mathlib.Omega.{arith}
-use lib.ListN.{get_or}
-use lib.Ieee.{nan, round, of_bits}
+-- `gain::cost_at` meets its contract: the invariant says that the energies that are left, walked from the cost so far on, cost what
+-- all do. Assumes nothing.
+use mathlib.Core.Path.{sym, ap, ◌∙◌}
+use mathlib.Core.List.{List}
+use lib.Ieee.{Float, round, of_bits}
 use Rattle.spectral_quantization.specs.Single.{constant}
-use Rattle.spectral_quantization.specs.Private.{cost_with}
-use Rattle.spectral_quantization.proofs.Energies.{walk_start, walk_turn, walk_end}
+use Rattle.spectral_quantization.proofs.Energies.{walked, walk_start, walk_turn, walk_end}
 use Rattle.spectral_quantization.proofs.gain.cost_at.Goals as goal
 
-pub loop-left-init : goal.loop-left-init
+pub loop-energy-init : goal.loop-energy-init
 unfolding constant round of_bits
-loop-left-init c = (omega arith, walk_start c.args.level c.args.energies.now)
+loop-energy-init c = rw (c.into_iter-energy-iterator.ensures.into_iter_gives, c.rev-energy-items.ensures.source, c.iter.ensures.rest) (walk_start c.args.level c.args.energies.now)
 
-pub loop-left-preserved : goal.loop-left-preserved
-loop-left-preserved c =
-    let a = c.args in (
-      omega arith,
-      c.with_energy-cost.ensures
-          ∙ ap (cost_with a.level (get_or a.energies.now (c.loop-left.left - 1) nan)) c.loop-left.invariant.1
-          ∙ walk_turn a.level a.energies.now c.loop-left.left c.loop-left-test.true c.loop-left.invariant.0,
-    )
+pub loop-energy-preserved : goal.loop-energy-preserved
+loop-energy-preserved c =
+    let a = c.args in
+    rw c.with_energy-cost.ensures
+    (sym (walk_turn a.level c.next.new.self.iter.rest.now c.in-Some.field-0.now c.loop-energy.cost)
+    ∙ ap (λ (xs : List Float). walked a.level xs c.loop-energy.cost) (sym c.in-Some.ensures.steps)
+    ∙ c.loop-energy.invariant)
 
 pub returns : goal.returns
 returns c =
-    let a = c.args in
-    c.loop-left.invariant.1 ∙ walk_end a.level a.energies.now c.loop-left.left (omega arith)
+    walk_end c.args.level c.loop-energy.energy-iterator.iter.rest.now c.loop-energy.cost c.in-None.ensures.steps.0
+    ∙ c.loop-energy.invariant

@@ -1,13 +1,9 @@
--- `gain::cost_at` meets its contract: the invariant says that the cost so far is that of the energies from `left` on, and the
--- measure is what is left. Assumes nothing.
+-- `gain::cost_at` meets its contract: the invariant says that the energies that are left, walked from the cost so far on, cost what
+-- all do. Assumes nothing.
 use mathlib.Core.Path.{◌≡◌}
-use Prim.Native.Nat.{◌≤◌}
-use lib.ListN.{length, drop}
 use Rattle.spectral_quantization.specs.Private.{cost_of_all}
+use Rattle.spectral_quantization.proofs.Energies.{walked}
 use Rattle.spectral_quantization.proofs.gain.cost_at.Given as goal
 
-abbrev pub invariant-loop-left : goal.invariant-loop-left
-invariant-loop-left l = (l.left ≤ length l.energies) × (l.cost ≡ cost_of_all l.level (drop l.left l.energies))
-
-abbrev pub decreases-loop-left : goal.decreases-loop-left
-decreases-loop-left l = l.left
+abbrev pub invariant-loop-energy : goal.invariant-loop-energy
+invariant-loop-energy l = walked l.level l.energy-iterator.iter.rest.now l.cost ≡ cost_of_all l.level l.energies

@@ -1,5 +1,6 @@
 -- `gain::exceeds` meets its contract: the cost that was walked is held against what the target allows.
 -- Assumes nothing.
+use mathlib.Core.Path.{◌∙◌}
 use lib.Ieee.{round, of_bits}
 use Rattle.spectral_quantization.specs.Single.{constant}
 use Rattle.spectral_quantization.proofs.Energies.{cost-over, cost-within, target-exact}
@@ -18,4 +19,4 @@ pub returns-else-cost-target : goal.returns-else-cost-target
 unfolding constant round of_bits
 returns-else-cost-target c =
     let a = c.args in
-    cost-within a.energies.now a.level a.target c.cost_at-cost.result c.cost_at-cost.ensures c.if-cost-target.false
+    c.if-cost-target.false ∙ cost-within a.energies.now a.level a.target c.cost_at-cost.result c.cost_at-cost.ensures c.if-cost-target.false

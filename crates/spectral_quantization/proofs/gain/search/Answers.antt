@@ -1,13 +1,9 @@
 -- `gain::search` meets its contract: the invariant says that the turns that are left, from the present step and index, find what
 -- the whole search finds, and that the index has room for the step (`Turns.antt`). The measure is how many turns are left.
 -- Assumes nothing.
-use mathlib.Core.Path.{refl, sym, ◌∙◌}
-use native.Mathlib.Omega.{arith}
+use mathlib.Core.Path.{sym, ◌∙◌}
 use Rattle.spectral_quantization.proofs.Turns.{turns_next, turns-end, room-kept}
 use Rattle.spectral_quantization.proofs.gain.search.Goals as goal
-
-pub loop-init : goal.loop-init
-loop-init c = (omega arith, refl)
 
 pub loop-preserved : goal.loop-preserved
 loop-preserved c =
