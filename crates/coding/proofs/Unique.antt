@@ -1,12 +1,11 @@
 -- What a met refusal says decides it: the step tells the case, the number the refusal. Assumes nothing.
-use Prim.Native.Nat.{ℕ}
 use mathlib.Core.Path.{◌≡◌, refl}
 use mathlib.Core.Bool.{cond}
 use lib.Dec.{eqb}
 use lib.ListN.{get_or}
 use Rattle.common.specs.Reply.{Step, nowhere, side, start, order, coef, symbol, bit, Reply}
 use Rattle.common.proofs.Unique.{from_back}
-use Rattle.coding.specs.Coding.{refusal_of, met_of}
+use Rattle.coding.specs.Coding.{met_of}
 use Rattle.coding.specs.declared.Refusal.{Refusal}
 use Rattle.coding.specs.declared.Refusal.TheVariants.{NoTailRoom, PastEnd, LowBeyondLimit}
 use Rattle.coding.specs.declared.Met.{Met}
