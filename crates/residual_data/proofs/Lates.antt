@@ -32,11 +32,8 @@ module _ (f : List ℕ) (x : ℤ) (tail room : ℕ) (P : Late → Type 0) where
       (λ g. rw (e, b, s, o, g) (signed two (negsuc 0) refl))
       (λ g. rw (e, b, s, o, g) (signed two (pos 1) refl))))))
 
--- and each case by its tests, as the code meets them
+-- and each case with room by its tests
 module _ (f : List ℕ) (x : ℤ) (tail room : ℕ) where
-  pub line-none : room ≡ 0 → held x tail 0 ≡ late_line f x tail room
-  line-none e = rw (eq-eqb room 0 e) refl
-
   module _ (some : room ≡ 0 → ⊥) where
     pub line_low : tail_bit f tail ≡ 0 → held x (tail + 1) (room - 1) ≡ late_line f x tail room
     line_low b = rw (ne_eqb room 0 some, eq-eqb (tail_bit f tail) 0 b) refl

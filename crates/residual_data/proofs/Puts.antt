@@ -10,7 +10,7 @@ use Rattle.contexts.specs.Lines.{line_at, magnitude_at, minus, escapes_at}
 use Rattle.contexts.proofs.Magnitudes.{minus-low}
 use Rattle.sending.specs.Sending.{Bit, side, residual, lowest, late_sign, owned, put_bits}
 use Rattle.sending.specs.Private.{AllBits, no_bits, more-bits}
-use Rattle.sending.proofs.Puts.{put-append, put-all-one, put-bits-length}
+use Rattle.sending.proofs.Puts.{put-append, put-all-one}
 use Rattle.sending.proofs.Stands.{bits-append}
 use Rattle.residual_data.specs.Residual.{nonzero}
 use Rattle.residual_data.specs.Sent.{residual_bits, late_at, late_pair, late_pairs}
@@ -30,9 +30,6 @@ take-most n xs = omega (arith, length-take n xs)
 -- bits before an end: the place behind them, and the buffer's length
 pub cut_most : {f : List ℕ} {at end n : ℕ} {g : List ℕ} (bits : List Bit) → at ≤ end → Cut f at end bits n g → n ≤ end
 cut_most {at = at} {end = end} bits h c = omega (arith, take-most (end - at) bits, c.place)
-
-pub cut-length : {f : List ℕ} {at end n : ℕ} {g : List ℕ} (bits : List Bit) → Cut f at end bits n g → length g ≡ length f
-cut-length {f} {at} {end} bits c = ap length c.lent ∙ put-bits-length f at (take (end - at) bits)
 
 -- a list behind another
 pub cut-behind : {f : List ℕ} {at end n m : ℕ} {g h : List ℕ} (xs ys : List Bit) → at ≤ end → Cut f at end xs n g → Cut g n end ys m h → Cut f at end (xs ++ ys) m h

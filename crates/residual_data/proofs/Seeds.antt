@@ -1,6 +1,6 @@
 -- The seed is a sum over the lines, so one line more adds its magnitude times its index; and cut to 32 bits on the way it is the same
 -- behind them. Assumes nothing.
-use Rattle.std.proofs.Common.{◌≡◌, ℕ, suc, ◌+◌, ◌*◌, ◌%◌, ◌^◌, ◌<◌, ◌≤◌, List, [], ◌∷◌, ◌++◌, length, get_or, take, ℤ, pos, nat_abs, refl, add-zero, mul-le-mul, zero-add, add-one, arith, length-take-le, take-suc}
+use Rattle.std.proofs.Common.{◌≡◌, ℕ, suc, ◌+◌, ◌*◌, ◌%◌, ◌^◌, ◌<◌, List, [], ◌∷◌, ◌++◌, length, get_or, take, ℤ, pos, nat_abs, refl, add-zero, zero-add, add-one, arith, length-take-le, take-suc}
 use Rattle.residual_data.specs.Sums.{weighted}
 
 weighted-append : (j : ℕ) (xs : List ℤ) (x : ℤ) → weighted j (xs ++ (x ∷ [])) ≡ weighted j xs + nat_abs x * (j + length xs)
@@ -22,7 +22,3 @@ sum-none lines = refl
 
 pub sum_one : (lines : List ℤ) (k sum : ℕ) → k < length lines → sum ≡ weighted 0 (take k lines) % 2 ^ 32 → (sum + nat_abs (get_or lines k (pos 0)) * k) % 2 ^ 32 ≡ weighted 0 (take (k + 1) lines) % 2 ^ 32
 sum_one lines k sum h e = rw (weighted-turn lines k h) (omega arith)
-
--- a product fits 32 bits
-pub product-fits : (m k : ℕ) → m ≤ 81920 → k ≤ 400 → m * k < 2 ^ 32
-product-fits m k a b = omega (arith, mul-le-mul a b)

@@ -1,16 +1,14 @@
 -- Not needed to believe anything: what private contracts and proofs here speak by. No public contract cites it.
-use Rattle.std.specs.Prelude.{◌≡◌, ℕ, ◌+◌, ◌-◌, ◌≤◌, List, length, take, ℤ, pos, slice_index_or, unsigned_abs}
+use Rattle.std.specs.Prelude.{Option, Some, None, ◌≡◌, ℕ, ◌+◌, ◌-◌, ◌≤◌, List, length, take, ℤ, pos, slice_index_or, unsigned_abs}
 use Rattle.common.specs.Reply.{Answer, accepted, refused, residual_negative}
 use Rattle.sending.specs.Sending.{Bit, put_bits}
 use Rattle.residual_data.specs.Residual.{Late}
-use Rattle.residual_data.specs.declared.Available.{Available}
-use Rattle.residual_data.specs.declared.Available.TheVariants.{Room, Negative}
 use Rattle.residual_data.specs.declared.LateLine.{LateLine}
 
--- what the enum and the struct say
-abbrev pub available_of : Available → Answer ℕ
-available_of (Room n) = accepted n
-available_of Negative = refused residual_negative
+-- the bits that are left, if no more than all are used, and what the struct says
+abbrev pub available_of : Option ℕ → Answer ℕ
+available_of (Some n) = accepted n
+available_of None = refused residual_negative
 
 abbrev pub late_of : LateLine → Late
 late_of r = record { line = r.line; tail = r.tail; room = r.room }

@@ -1,6 +1,6 @@
 // The stage's parts, which the frame's reader and its writer call behind their checks. No bit is refused here: the room says that its
 // byte is there.
-ghost use Rattle.std.specs.Prelude.{◌≡◌, ◌+◌, ◌*◌, ◌%◌, ◌<◌, ◌≤◌, min, [], ◌∷◌, ◌++◌, length, take, drop, pos, negsuc, if◌then◌else◌, ◌==◌, nat_eq, unsigned_abs};
+ghost use Rattle.std.specs.Prelude.{◌≡◌, ◌+◌, ◌*◌, ◌%◌, ◌<◌, ◌≤◌, min, [], ◌∷◌, ◌++◌, length, take, drop, if◌then◌else◌, ◌==◌, nat_eq, unsigned_abs};
 ghost use Rattle.buffer_reader.specs.Tail.{tail_bit};
 ghost use Rattle.residual_data.specs.Residual.{used_bits, bits_from, residual_list, late_line, escaped_by, late_from};
 ghost use Rattle.residual_data.specs.Residual.{available as Residual·available, nonzero as Residual·nonzero, larger as Residual·larger};
@@ -10,7 +10,7 @@ ghost use Rattle.sending.specs.Sending.{Owner, owned, put_bits};
 ghost use Rattle.residual_data.specs.Sent.{residual_bits, late_at, late_pair, late_pairs};
 ghost use Rattle.residual_data.specs.Private.{available_of, late_of, held, AtMost, Cut};
 
-use crate::{Available, LateLine};
+use crate::LateLine;
 use buffer_reader::Cursor;
 
 // The bits that are used up to a cursor, by the coder's range there.
@@ -22,15 +22,11 @@ pub fn used_bits(at: Cursor, range: u32) -> usize
 }
 
 // The bits that are left of N, or refusal 12.
-pub fn available(bits: usize, at: Cursor, range: u32) -> Available
+pub fn available(bits: usize, at: Cursor, range: u32) -> Option<usize>
     requires { (3 ≤ at.head) × (at.head ≤ 65537) × (at.tail ≤ 8 * 65535) × (0x10000 ≤ range) × (range ≤ 0xFFFFFF) }
     ensures { available_of result ≡ Residual·available bits at range }
 {
-    let used = used_bits(at, range);
-    if bits < used {
-        return Available::Negative;
-    }
-    Available::Room(bits - used)
+    bits.checked_sub(used_bits(at, range))
 }
 
 // The bit at a tail place whose byte is there.
@@ -42,47 +38,21 @@ fn bit_at(buf: &[u8], tail: usize) -> u8
     (buf[at] >> (tail % 8)) % 2
 }
 
-fn is_zero(line: i32) -> bool
-    ensures { result ≡ (unsigned_abs line == 0) }
-{
-    line == 0
-}
-
-fn counts(line: i32) -> usize
-    ensures { result ≡ (if nat_eq (unsigned_abs line) 0 then 0 else 1) }
-{
-    if is_zero(line) { 0 } else { 1 }
-}
-
 // How many of the first lines are not 0.
 pub fn nonzero(lines: &[i32], ne: usize) -> usize
     requires { ne ≤ length lines.now }
     ensures { (result ≡ Residual·nonzero (take ne lines.now)) × (result ≤ ne) }
 {
-    let mut n = 0;
-    let mut k = 0;
-    while k < ne {
-        n += counts(lines[k]);
-        k += 1;
-    }
-    n
+    lines[..ne].iter().filter(|line| **line != 0).count()
 }
 
-fn lesser(a: usize, b: usize) -> usize
-    ensures { result ≡ min a b }
+// As many tail bits from a place on as there are places, each apart.
+fn lay_bits(buf: &[u8], tail: usize, bits: &mut [u8])
+    requires { (length buf.now ≤ 65535) × (tail + length bits.old ≤ 8 * length buf.now) }
+    ensures { bits.new ≡ bits_from buf.now tail (length bits.old) }
 {
-    if a < b { a } else { b }
-}
-
-// So many tail bits from a place on, each apart.
-fn lay_bits(buf: &[u8], tail: usize, n: usize, bits: &mut [u8])
-    requires { (length buf.now ≤ 65535) × (tail + n ≤ 8 * length buf.now) × (n ≤ length bits.old) }
-    ensures { bits.new ≡ bits_from buf.now tail n ++ drop n bits.old }
-{
-    let mut i = 0;
-    while i < n {
-        bits[i] = bit_at(buf, tail + i);
-        i += 1;
+    for (i, bit) in bits.iter_mut().enumerate() {
+        *bit = bit_at(buf, tail + i);
     }
 }
 
@@ -99,8 +69,8 @@ pub fn residual_bits(
     ensures count { result ≡ min room (Residual·nonzero (take ne lines.now)) }
     ensures lent { bits.new ≡ residual_list buf.now tail room (take ne lines.now) ++ drop result bits.old }
 {
-    let n = lesser(room, nonzero(lines, ne));
-    lay_bits(buf, tail, n, bits);
+    let n = room.min(nonzero(lines, ne));
+    lay_bits(buf, tail, &mut bits[..n]);
     n
 }
 
@@ -110,13 +80,6 @@ fn larger(line: i32) -> i32
     ensures { result ≡ Residual·larger line }
 {
     if line < 0 { line - 1 } else { line + 1 }
-}
-
-// A magnitude of 1 by its sign, 1 for minus.
-fn signed(minus: u8) -> i32
-    ensures { result ≡ (if nat_eq minus 1 then negsuc 0 else pos 1) }
-{
-    if minus == 1 { -1 } else { 1 }
 }
 
 fn late(line: i32, tail: usize, room: usize) -> LateLine
@@ -136,13 +99,14 @@ fn late_line(buf: &[u8], line: i32, tail: usize, room: usize) -> LateLine
     if bit_at(buf, tail) == 0 {
         return late(line, tail + 1, room - 1);
     }
-    if !is_zero(line) {
+    if line != 0 {
         return late(larger(line), tail + 1, room - 1);
     }
     if room == 1 {
         return late(line, tail + 1, 0);
     }
-    late(signed(bit_at(buf, tail + 1)), tail + 2, room - 2)
+    let sign = if bit_at(buf, tail + 1) == 1 { -1 } else { 1 };
+    late(sign, tail + 2, room - 2)
 }
 
 // Where the level of pair p is looked up: by line number in the crate reading, by pair number in the standard.
@@ -159,10 +123,7 @@ fn escaped(reading: usize, levels: &[u8], pairs: usize, p: usize) -> bool
     ensures { result ≡ escaped_by reading (take pairs levels.now) p }
 {
     let place = level_place(reading, p);
-    if place < pairs {
-        return 0 < levels[place];
-    }
-    false
+    place < pairs && 0 < levels[place]
 }
 
 // Both lines of each escaped pair behind what comes late, while there is room. Returns the tail behind it.
@@ -181,32 +142,23 @@ pub fn late_lines(
 {
     let mut at = tail;
     let mut left = room;
-    let mut p = 0;
-    while p < pairs {
+    for p in 0..pairs {
         if escaped(reading, levels, pairs, p) {
             let first = late_line(buf, lines[2 * p], at, left);
             let second = late_line(buf, lines[2 * p + 1], first.tail, first.room);
-            let x = first.line;
-            let y = second.line;
-            lines[2 * p] = x;
-            lines[2 * p + 1] = y;
+            lines[2 * p] = first.line;
+            lines[2 * p + 1] = second.line;
             at = second.tail;
             left = second.room;
         }
-        p += 1;
     }
     at
 }
 
 pub fn magnitude(line: i32) -> u32
-    requires { unsigned_abs line ≤ 81920 }
     ensures { result ≡ unsigned_abs line }
 {
-    if line < 0 {
-        (0 - line) as u32
-    } else {
-        line as u32
-    }
+    line.unsigned_abs()
 }
 
 // The noise seed: magnitude times index, as the lines are returned.
@@ -215,10 +167,8 @@ pub fn seed(lines: &[i32], ne: usize) -> u32
     ensures { result ≡ Sums·seed (take ne lines.now) }
 {
     let mut sum: u32 = 0;
-    let mut k = 0;
-    while k < ne {
-        sum = std::num::wrapping_add_u32(sum, magnitude(lines[k]) * (k as u32));
-        k += 1;
+    for (k, line) in lines[..ne].iter().enumerate() {
+        sum = sum.wrapping_add(line.unsigned_abs() * (k as u32));
     }
     sum % 65536
 }
@@ -234,47 +184,14 @@ pub fn zero_flag(
 ) -> bool
     ensures { result ≡ zero_flag reading lastnz gain noise first second }
 {
-    if lastnz != 2 {
-        return false;
-    }
-    if !is_zero(first) {
-        return false;
-    }
-    if !is_zero(second) {
-        return false;
-    }
-    if gain != 0 {
-        return false;
-    }
-    if reading == 0 {
-        return true;
-    }
-    noise == 7
+    lastnz == 2 && first == 0 && second == 0 && gain == 0 && (reading == 0 || noise == 7)
 }
 
 // How many lines are not 0, of those that are written.
 pub fn nonzero_written(lines: &[i16]) -> usize
     ensures { result ≡ Residual·nonzero lines.now }
 {
-    let mut n = 0;
-    let mut k = 0;
-    while k < lines.len() {
-        n += one_above(contexts::inner::magnitude_at(lines, k));
-        k += 1;
-    }
-    n
-}
-
-fn one_above(magnitude: usize) -> usize
-    ensures { result ≡ (if nat_eq magnitude 0 then 0 else 1) }
-{
-    if magnitude == 0 { 0 } else { 1 }
-}
-
-fn low_bit(value: u8) -> u32
-    ensures { result ≡ value % 2 }
-{
-    (value % 2) as u32
+    lines.iter().filter(|line| **line != 0).count()
 }
 
 // The residual list as far as there is room, a bit to each nonzero line in order: the lines say whose the bits are.
@@ -282,11 +199,9 @@ pub fn put_residual(buf: &mut [u8], place: usize, room: usize, lines: &[i16], re
     requires { (length buf.old ≤ 65535) × (place + room ≤ 8 * length buf.old) × (length residual.now ≤ Residual·nonzero lines.now) }
     ensures { buf.new ≡ put_bits buf.old place (take room (residual_bits 0 lines.now residual.now)) }
 {
-    let n = lesser(room, residual.len());
-    let mut i = 0;
-    while i < n {
-        buffer_writer::inner::put_bit(buf, place + i, low_bit(residual[i]));
-        i += 1;
+    let n = room.min(residual.len());
+    for (i, bit) in residual[..n].iter().enumerate() {
+        buffer_writer::inner::put_bit(buf, place + i, u32::from(*bit % 2));
     }
 }
 
@@ -302,19 +217,13 @@ fn put_before(buf: &mut [u8], at: usize, end: usize, value: u32) -> usize
     at + 1
 }
 
-fn lowest_bit(magnitude: usize) -> u32
-    ensures { result ≡ magnitude % 2 }
-{
-    (magnitude % 2) as u32
-}
-
 // A line's lowest bit, and behind it the sign of a magnitude 1.
 fn put_late_line(buf: &mut [u8], at: usize, end: usize, lines: &[i16], k: usize) -> usize
     requires { (at ≤ end) × (end ≤ 8 * length buf.old) × (k < length lines.now) }
     ensures { Cut buf.old at end (late_at lines.now k) result buf.new }
 {
     let magnitude = contexts::inner::magnitude_at(lines, k);
-    let next = put_before(buf, at, end, lowest_bit(magnitude));
+    let next = put_before(buf, at, end, (magnitude % 2) as u32);
     if magnitude != 1 {
         return next;
     }
@@ -340,9 +249,7 @@ pub fn put_late(buf: &mut [u8], place: usize, room: usize, lines: &[i16], pairs:
 {
     let end = place + room;
     let mut at = place;
-    let mut p = 0;
-    while p < pairs {
+    for p in 0..pairs {
         at = put_late_pair(buf, at, end, lines, p);
-        p += 1;
     }
 }

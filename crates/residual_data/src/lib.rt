@@ -4,13 +4,6 @@
 
 pub mod inner;
 
-// How many bits are left of the frame, or that more than all are used.
-#[derive(Clone, Copy)]
-pub enum Available {
-    Room(usize),
-    Negative,
-}
-
 // A line behind its late bits, the tail behind them, and the room that is left.
 #[derive(Clone, Copy)]
 pub struct LateLine {

@@ -13,11 +13,7 @@ fn below(row: &[u16], symbol: usize) -> u32
     requires { (symbol ≤ length row.now) × (row_passes row.now ≡ true) }
     ensures { result ≡ cumulative row.now symbol }
 {
-    let mut sum: u32 = 0;
-    for frequency in &row[..symbol] {
-        sum += u32::from(*frequency);
-    }
-    sum
+    row[..symbol].iter().map(|f| u32::from(*f)).sum()
 }
 
 // One turn of the renormalising, counted: S goes in the place of the bytes out.
@@ -94,9 +90,8 @@ pub fn bit(buf: &mut [u8], writing: bool, place: usize, value: u32) -> usize
     ensures next { result ≡ place + 1 }
     ensures lent { buf.new ≡ cond writing (put_bit buf.old place value) buf.old }
 {
-    if !writing {
-        return place + 1;
+    if writing {
+        buffer_writer::inner::put_bit(buf, place, value);
     }
-    buffer_writer::inner::put_bit(buf, place, value);
     place + 1
 }

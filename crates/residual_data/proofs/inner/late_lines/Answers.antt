@@ -1,6 +1,6 @@
 -- `inner::late_lines` meets its contract: what is left from a pair on, behind the lines that are passed, is what the whole asks.
 -- Assumes nothing.
-use Rattle.std.proofs.Common.{◌≡◌, ◌+◌, ◌*◌, ◌<◌, ◌≤◌, length, get_or, take, ℤ, pos, nat_abs, sym, ap, ◌∙◌, arith, length-set, w32, to_z, of_z}
+use Rattle.std.proofs.Common.{◌≡◌, ◌+◌, ◌*◌, ◌≤◌, get_or, take, ℤ, pos, nat_abs, sym, ap, ◌∙◌, arith, w32, to_z, of_z}
 use Rattle.residual_data.specs.Residual.{Late, late_line, escaped_by}
 use Rattle.residual_data.specs.Private.{late_of}
 use Rattle.residual_data.proofs.Lines.{same_line}
@@ -9,7 +9,7 @@ use Rattle.residual_data.proofs.Turns.{passed_start, ahead-most, passed-kept, pa
 use Rattle.residual_data.proofs.inner.late_lines.Goals as goal
 use Rattle.residual_data.proofs.inner.late_lines.Goals.{In-loop-p, then-escaped, else-escaped}
 
--- the two lines of the pair, their bounds, and that they are there
+-- the two lines of the pair, and their bounds
 abbrev first : In-loop-p → ℤ
 first c = get_or c.loop-p.lines (2 * c.loop-p.p) (pos 0)
 
@@ -17,39 +17,24 @@ abbrev second : In-loop-p → ℤ
 second c = get_or c.loop-p.lines (2 * c.loop-p.p + 1) (pos 0)
 
 ready : (c : In-loop-p) → (nat_abs (first c) ≤ 81919) × (nat_abs (second c) ≤ 81919)
-ready c = ahead-most c.args.buf.now (escaped_by c.args.reading (take c.args.pairs c.args.levels.now)) c.args.lines.now c.args.pairs c.args.tail c.args.room (omega arith) c.loop-p.lines c.loop-p.at c.loop-p.left c.loop-p.p c.loop-p-test.true c.loop-p.invariant.1 81919 c.requires.5
-
-long : (c : In-loop-p) → 2 * c.loop-p.p + 1 < length c.loop-p.lines
-long c = omega (arith, c.loop-p.invariant.1.size)
+ready c = ahead-most c.args.buf.now (escaped_by c.args.reading (take c.args.pairs c.args.levels.now)) c.args.lines.now c.args.pairs c.args.tail c.args.room (omega arith) c.loop-p.lines c.loop-p.at c.loop-p.left c.loop-p.p c.loop-p-test.true c.loop-p.invariant 81919 c.requires.5
 
 pub loop-p-init : goal.loop-p-init
-loop-p-init c = (omega arith, passed_start c.args.buf.now (escaped_by c.args.reading (take c.args.pairs c.args.levels.now)) c.args.lines.now c.args.pairs c.args.tail c.args.room)
-
-pub slice_copy_out-late_line : goal.slice_copy_out-late_line
-slice_copy_out-late_line c = omega (arith, long (goal.at.slice_copy_out-late_line c).In-loop-p)
+loop-p-init c = passed_start c.args.buf.now (escaped_by c.args.reading (take c.args.pairs c.args.levels.now)) c.args.lines.now c.args.pairs c.args.tail c.args.room
 
 pub late_line-first-requires : goal.late_line-first-requires
 late_line-first-requires c =
     let most = (ready (goal.at.late_line-first-requires c).In-loop-p).0 in
-    (omega arith, omega (arith, c.loop-p.invariant.1.spent), rw (same_line (first (goal.at.late_line-first-requires c).In-loop-p) (omega arith)) most)
-
-pub slice_copy_out-late_line-then-escaped : goal.slice_copy_out-late_line-then-escaped
-slice_copy_out-late_line-then-escaped c = omega (arith, long (goal.at.slice_copy_out-late_line-then-escaped c).In-loop-p)
+    (omega arith, omega (arith, c.loop-p.invariant.spent), rw (same_line (first (goal.at.late_line-first-requires c).In-loop-p) (omega arith)) most)
 
 pub late_line-second-requires : goal.late_line-second-requires
 late_line-second-requires c =
     let most = (ready (goal.at.late_line-second-requires c).In-loop-p).1 in
     let spends = ap (λ (l : Late). l.tail + l.room) c.late_line-first.ensures in (
       omega arith,
-      omega (arith, c.loop-p.invariant.1.spent, spends, line-spends c.args.buf.now (to_z w32 (of_z w32 (first (goal.at.late_line-second-requires c).In-loop-p))) c.loop-p.at c.loop-p.left),
+      omega (arith, c.loop-p.invariant.spent, spends, line-spends c.args.buf.now (to_z w32 (of_z w32 (first (goal.at.late_line-second-requires c).In-loop-p))) c.loop-p.at c.loop-p.left),
       rw (same_line (second (goal.at.late_line-second-requires c).In-loop-p) (omega arith)) most,
     )
-
-pub bounds-lines-p : goal.bounds-lines-p
-bounds-lines-p c = omega (arith, long (goal.at.bounds-lines-p c).In-loop-p)
-
-pub bounds-lines-p-then-escaped : goal.bounds-lines-p-then-escaped
-bounds-lines-p-then-escaped c = rw length-set (omega (arith, long (goal.at.bounds-lines-p-then-escaped c).In-loop-p))
 
 pub loop-p-preserved : goal.loop-p-preserved
 loop-p-preserved c =
@@ -66,14 +51,11 @@ loop-p-preserved c =
           let x-held = line-held a.buf.now (first here) l.at l.left u.line most.0 (ap (λ (z : Late). z.line) at_first) in
           let y-held = line-held a.buf.now (second here) u.tail u.room v.line most.1 (ap (λ (z : Late). z.line) at_second) in
           rw (w.lines-is, w.at-is, w.left-is, x-held, y-held)
-          (omega arith, passed-late a.buf.now (escaped_by a.reading (take a.pairs a.levels.now)) a.lines.now a.pairs a.tail a.room (omega arith) l.lines l.at l.left l.p (omega arith) l.invariant.1 (sym c.escaped.ensures ∙ w.if-escaped.true) (late_of u) (late_of v) at_first at_second)
+          (passed-late a.buf.now (escaped_by a.reading (take a.pairs a.levels.now)) a.lines.now a.pairs a.tail a.room (omega arith) l.lines l.at l.left l.p (omega arith) l.invariant (sym c.escaped.ensures ∙ w.if-escaped.true) (late_of u) (late_of v) at_first at_second)
       | else-escaped w ↦
           rw (w.lines-is, w.at-is, w.left-is)
-          (omega arith, passed-kept a.buf.now (escaped_by a.reading (take a.pairs a.levels.now)) a.lines.now a.pairs a.tail a.room (omega arith) l.lines l.at l.left l.p (omega arith) l.invariant.1 (sym c.escaped.ensures ∙ w.if-escaped.false))
+          (passed-kept a.buf.now (escaped_by a.reading (take a.pairs a.levels.now)) a.lines.now a.pairs a.tail a.room (omega arith) l.lines l.at l.left l.p (omega arith) l.invariant (sym c.escaped.ensures ∙ w.if-escaped.false))
     ]
 
-pub shape_of-lines : goal.shape_of-lines
-shape_of-lines c = c.loop-p.invariant.1.size
-
 pub returns : goal.returns
-returns c = let p = passed-end c.args.buf.now (escaped_by c.args.reading (take c.args.pairs c.args.levels.now)) c.args.lines.now c.args.pairs c.args.tail c.args.room (omega arith) c.loop-p.lines c.loop-p.at c.loop-p.left c.loop-p.p (omega arith) c.loop-p.invariant.1 in record { tail = p.0; lent = p.1 }
+returns c = let p = passed-end c.args.buf.now (escaped_by c.args.reading (take c.args.pairs c.args.levels.now)) c.args.lines.now c.args.pairs c.args.tail c.args.room (omega arith) c.loop-p.lines c.loop-p.at c.loop-p.left c.loop-p.p (omega arith) c.loop-p.invariant in record { tail = p.0; lent = p.1 }

@@ -14,7 +14,7 @@ told : (c : After-magnitude_at-magnitude) → c.magnitude_at-magnitude.result �
 told c = c.magnitude_at-magnitude.ensures.value ∙ magnitude-read c.args.lines.now c.args.k
 
 first : (c : After-put_before-next) → Cut c.args.buf.now c.args.at c.args.end (owned (lowest c.args.k) (c.magnitude_at-magnitude.result % 2) ∷ []) c.put_before-next.result c.put_before-next.new.buf
-first c = rw (← c.lowest_bit.ensures) (c.put_before-next.ensures (lowest c.args.k))
+first c = c.put_before-next.ensures (lowest c.args.k)
 
 pub returns-then-magnitude-ne1 : goal.returns-then-magnitude-ne1
 returns-then-magnitude-ne1 c =
