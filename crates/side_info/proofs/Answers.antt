@@ -4,24 +4,48 @@ use Prim.Native.Nat.{ℕ, ◌*◌}
 use mathlib.Core.Path.{◌≡◌, refl}
 use mathlib.Core.Bool.{true, false}
 use mathlib.Core.List.{List}
+use lib.Dec.{leb}
 use lib.ListN.{length}
-use Rattle.common.specs.Reply.{Reply, accepted, refused, field_outside}
+use Rattle.common.specs.Reply.{Reply, Answer, accepted, refused, and_then, field_outside}
 use Rattle.common.specs.Configuration.{frame_lines}
 use Rattle.common.specs.declared.configuration.Configuration.{Configuration}
 use Rattle.common.proofs.Configurations.{frame-known}
-use Rattle.buffer_reader.specs.Steps.{next}
+use Rattle.buffer_reader.specs.Steps.{if_present}
 use Rattle.buffer_reader.specs.declared.Cursor.{Cursor}
-use Rattle.side_info.specs.Reader.{read_bandwidth, read_lastnz, read_all, read_side}
+use Rattle.side_info.specs.Reader.{side_field, side_flag, read_bandwidth, read_lastnz, part_bits, read_joint, read_all, read_side}
 use Rattle.side_info.specs.Record.{side_passes}
 use Rattle.side_info.specs.Layout.{side_fields, room_for, put_fields}
 use Rattle.side_info.specs.Writer.{write_side, side_written}
-use Rattle.side_info.specs.Private.{from_level, write_fields, fields_written}
+use Rattle.side_info.specs.Private.{read_parts, write_fields, fields_written}
 use Rattle.side_info.specs.declared.SideInfo.{SideInfo}
 use Rattle.side_info.specs.declared.writer.Field.{Field}
 
--- the reader's chain is made of the pieces that the code's functions read
-pub chain-made : (fs ne : ℕ) → read_all fs ne ≡ next (read_bandwidth fs) (λ bandwidth. next (read_lastnz ne) (λ lastnz. from_level bandwidth lastnz))
-chain-made fs ne = refl
+-- what follows an answer can be followed together
+under : {A B : Type 0} (a : Answer A) {k l : A → Answer B} → ((x : A) → k x ≡ l x) → and_then a k ≡ and_then a l
+under (accepted x) h = h x
+under (refused r) h = refl
+
+after : {A B C : Type 0} (a : Answer A) (k : A → Answer B) (g : B → Answer C) {l : A → Answer C} → ((x : A) → and_then (k x) g ≡ l x) → and_then (and_then a k) g ≡ and_then a l
+after (accepted x) k g h = h x
+after (refused r) k g h = refl
+
+-- the reader's chain is made of the part that the code reads by itself, and the rest
+pub chain-made : (fs ne : ℕ) (f : List ℕ) (c : Cursor) → read_parts fs ne f c ≡ read_all fs ne f c
+chain-made fs ne f c =
+    under (read_bandwidth fs f c)
+    (λ bandwidth. under (read_lastnz ne f bandwidth.1)
+    (λ lastnz. under (side_flag f lastnz.1)
+    (λ lsb. under (side_field 8 f lsb.1)
+    (λ gain. under (side_flag f gain.1)
+    (λ first. under (if_present (leb 3 bandwidth.0) side_flag f first.1)
+    (λ second. under (side_flag f second.1)
+    (λ pitch. after (side_field 5 f pitch.1) _ _
+    (λ lf. after (side_field 5 f lf.1) _ _
+    (λ hf. after (side_flag f hf.1) _ _
+    (λ msb. after (side_field (part_bits msb.0) f msb.1) _ _
+    (λ part. after (side_flag f part.1) _ _
+    (λ ls_inda. after (read_joint msb.0 f ls_inda.1) _ _
+    (λ j. refl)))))))))))))
 
 pub read-on : (k : Configuration) (f : List ℕ) (c : Cursor) {n : ℕ} → frame_lines k (length f) ≡ accepted n → read_side k f c ≡ read_all k.fs_ind n f c
 read-on k f c e = rw e refl

@@ -19,7 +19,6 @@ use Rattle.buffer_reader.proofs.Steps.{Holds, holds_at, holds_then, field-holds,
 use Rattle.side_info.specs.Joint.{sns_of25, sns_of24, sns_of}
 use Rattle.side_info.specs.Record.{if_there, sns_passes, side_passes}
 use Rattle.side_info.specs.Reader.{side_field, side_flag, bandwidth_bits, part_bits, read_bandwidth, lastnz_bits, read_lastnz, read_joint, read_all, read_side}
-use Rattle.side_info.specs.Private.{side_info_of}
 use Rattle.side_info.specs.declared.Sns.{Sns}
 use Rattle.side_info.specs.declared.SideInfo.{SideInfo}
 use Rattle.side_info.proofs.Values.{Below, holds_after, holds-checked, joint_limit, joint-holds}
@@ -118,9 +117,19 @@ module _ (fs ne : ℕ) (f : List ℕ) where
       (λ active on-off. maybe (eqb pitch.0 1) 511 (side_field 9) active.1 _ (field-holds side 9 f active.1)
       (λ index place. bits 3 index.1 _
       (λ noise noises. limits-pass fs ne
-      (side_info_of (record { bandwidth = bandwidth.0; lastnz = lastnz.0; lsb = lsb.0; gain = gain.0 })
-      (record { first = first.0; second = second.0; pitch = pitch.0 })
-      (sns_of lf.0 hf.0 msb.0 part.0 ls_inda.0 j.0) active.0 index.0 noise.0)
+      (record {
+        bandwidth = bandwidth.0;
+        lastnz = lastnz.0;
+        lsb = lsb.0;
+        gain = gain.0;
+        tns_first = first.0;
+        tns_second = second.0;
+        pitch = pitch.0;
+        sns = sns_of lf.0 hf.0 msb.0 part.0 ls_inda.0 j.0;
+        active = active.0;
+        index = index.0;
+        noise = noise.0;
+      })
       (record {
         band = band;
         even = last.even;

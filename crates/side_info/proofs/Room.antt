@@ -50,6 +50,10 @@ pub room-end : (bits tail i : ℕ) (fields : List Field) → length fields ≤ i
 unfolding room_for
 room-end bits tail i fields h = rw (drop_of_length-le fields h) refl
 
+pub length-end : (i : ℕ) (fields : List Field) → length fields ≤ i → length_of (drop i fields) ≡ 0
+unfolding length_of
+length-end i fields h = rw (drop_of_length-le fields h) refl
+
 pub put-end : (f : List ℕ) (tail i : ℕ) (fields : List Field) → length fields ≤ i → put_fields f tail (drop i fields) ≡ f
 unfolding put_fields
 put-end f tail i fields h = rw (drop_of_length-le fields h) refl

@@ -1,7 +1,7 @@
 -- What is known of a number that was read: a flag is 0 or 1, a field below 2 to its width, J below its limit.
 -- Assumes nothing.
 use Prim.Native.Nat.{ℕ, ◌≤◌, ◌<◌, ◌^◌}
-use mathlib.Core.Path.{◌≡◌, refl, sym, ap, ◌∙◌}
+use mathlib.Core.Path.{◌≡◌, refl, sym}
 use mathlib.Core.Bool.{Bool, true, false, cond}
 use mathlib.Core.List.{List}
 use native.Mathlib.Omega.{arith}
@@ -13,9 +13,6 @@ use Rattle.buffer_reader.specs.Steps.{found, refusing}
 use Rattle.buffer_reader.specs.declared.Cursor.{Cursor}
 use Rattle.buffer_reader.proofs.Steps.{Holds, holds_at, field-holds, flag-holds}
 use Rattle.side_info.specs.Reader.{side_field, side_flag, part_bits, joint_bits, read_joint}
-use Rattle.side_info.specs.Private.{number_of}
-use Rattle.side_info.specs.declared.fields.NumberRead.{NumberRead}
-use Rattle.side_info.specs.declared.fields.NumberRead.TheVariants.{Number}
 use Rattle.side_info.proofs.Widths.{by-msb}
 
 -- a value is below a limit
@@ -45,19 +42,19 @@ joint-holds msb f c = holds_after (Below (joint_limit msb)) (side_field (joint_b
     by false r =
         holds-checked (Below 16708096) (leb 16708096 r.0) (joint_too_large24 r.0) (accepted r) (λ e. leb-false 16708096 r.0 e)
 
-module _ (r : NumberRead) (f : List ℕ) (c : Cursor) {v : ℕ} {d : Cursor} (is : r ≡ Number v d) where
-  pub flag-low : number_of r ≡ side_flag f c → v < 2
-  flag-low e = holds_at (Below 2) (side_flag f c) (flag-holds side f c) (sym e ∙ ap number_of is)
+module _ (f : List ℕ) (c : Cursor) {v : ℕ} {d : Cursor} where
+  pub flag-low : accepted (v, d) ≡ side_flag f c → v < 2
+  flag-low e = holds_at (Below 2) (side_flag f c) (flag-holds side f c) (sym e)
 
-  pub field-low : (n : ℕ) → number_of r ≡ side_field n f c → v < 2 ^ n
-  field-low n e = holds_at (Below (2 ^ n)) (side_field n f c) (field-holds side n f c) (sym e ∙ ap number_of is)
+  pub field-low : (n : ℕ) → accepted (v, d) ≡ side_field n f c → v < 2 ^ n
+  field-low n e = holds_at (Below (2 ^ n)) (side_field n f c) (field-holds side n f c) (sym e)
 
-  pub joint-low : (msb : ℕ) → number_of r ≡ read_joint msb f c → v < 2 ^ 25
+  pub joint-low : (msb : ℕ) → accepted (v, d) ≡ read_joint msb f c → v < 2 ^ 25
   joint-low msb e =
       by-test (eqb msb 0) (λ t. omega (arith, rw t at below)) (λ t. omega (arith, rw t at below))
     where
       below : v < joint_limit msb
-      below = holds_at (Below (joint_limit msb)) (read_joint msb f c) (joint-holds msb f c) (sym e ∙ ap number_of is)
+      below = holds_at (Below (joint_limit msb)) (read_joint msb f c) (joint-holds msb f c) (sym e)
 
 -- a gain's part
 pub part_low : (v msb : ℕ) → v < 2 ^ part_bits msb → v ≤ 3

@@ -1,15 +1,12 @@
 -- Document 01, "Side information, in order from the tail": what is read, field after field.
 use Rattle.std.specs.Prelude.{ℕ, zero, suc, ◌+◌, ◌*◌, ◌/◌, ◌^◌, cond, [], ◌∷◌, leb, ltb, eqb, length, get_or}
-use Rattle.common.specs.Reply.{side, Reply, Answer, accepted, refused, and_then, in_step, outside_limits, bandwidth_too_large, lastnz_too_large, joint_too_large25, joint_too_large24}
+use Rattle.common.specs.Reply.{side, Reply, and_then, in_step, outside_limits, bandwidth_too_large, lastnz_too_large, joint_too_large25, joint_too_large24}
 use Rattle.common.specs.Configuration.{frame_lines}
 use Rattle.common.specs.declared.configuration.Configuration.{Configuration}
 use Rattle.buffer_reader.specs.Reads
 use Rattle.buffer_reader.specs.Steps.{Reading, found, next as ◌>>=◌, refusing, if_present, field_in, flag_in}
-use Rattle.buffer_reader.specs.declared.Cursor.{Cursor}
 use Rattle.side_info.specs.Joint.{sns_of}
 use Rattle.side_info.specs.declared.SideInfo.{SideInfo}
-use Rattle.side_info.specs.declared.reader.SideRead.{SideRead}
-use Rattle.side_info.specs.declared.reader.SideRead.TheVariants.{Side, Refused as SideRefused}
 use Rattle.side_info.specs.declared.fields.SideInfoError.{SideInfoError}
 use Rattle.side_info.specs.declared.fields.SideInfoError.TheVariants.{OutsideLimits, BandwidthIdxOutOfRange, LastNonZeroTupleGreaterThanYLen, PlcTriggerSns1OutOfRange, PlcTriggerSns2OutOfRange, Buffer}
 
@@ -107,7 +104,3 @@ reply_of (LastNonZeroTupleGreaterThanYLen lastnz ne) = lastnz_too_large lastnz n
 reply_of (PlcTriggerSns1OutOfRange j) = joint_too_large25 j
 reply_of (PlcTriggerSns2OutOfRange j) = joint_too_large24 j
 reply_of (Buffer e) = in_step side (Reads.reply_of e)
-
-abbrev pub side_of : SideRead → Answer (SideInfo × Cursor)
-side_of (Side s c) = accepted (s, c)
-side_of (SideRefused e) = refused (reply_of e)

@@ -1,7 +1,7 @@
 -- What the side information's writer answers, and the frame behind it: refusals 1, 2, 13, then 9 for the first field that
 -- passes the frame's start.
 use Rattle.std.specs.Prelude.{ℕ, ◌*◌, not, List, length}
-use Rattle.common.specs.Reply.{Reply, Answer, accepted, refused, given, and_then as ◌>>=◌, unless_refused, outside_limits, field_outside}
+use Rattle.common.specs.Reply.{Reply, Answer, accepted, given, and_then as ◌>>=◌, unless_refused, outside_limits, field_outside}
 use Rattle.common.specs.Configuration.{ne, frame_lines}
 use Rattle.common.specs.declared.configuration.Configuration.{Configuration}
 use Rattle.buffer_reader.specs.Reads
@@ -9,8 +9,6 @@ use Rattle.buffer_reader.specs.declared.Cursor.{Cursor}
 use Rattle.side_info.specs.Record.{side_passes}
 use Rattle.side_info.specs.Layout.{side_fields, room_for, put_fields}
 use Rattle.side_info.specs.declared.SideInfo.{SideInfo}
-use Rattle.side_info.specs.declared.writer.SideWritten.{SideWritten}
-use Rattle.side_info.specs.declared.writer.SideWritten.TheVariants.{At, Refused}
 use Rattle.side_info.specs.declared.writer.SideWriteError.{SideWriteError}
 use Rattle.side_info.specs.declared.writer.SideWriteError.TheVariants.{OutsideLimits, FieldOutside, Buffer}
 
@@ -31,7 +29,3 @@ abbrev pub reply_of : SideWriteError → Reply
 reply_of OutsideLimits = outside_limits
 reply_of FieldOutside = field_outside
 reply_of (Buffer e) = Reads.reply_of e
-
-abbrev pub written_of : SideWritten → Answer Cursor
-written_of (At c) = accepted c
-written_of (Refused e) = refused (reply_of e)

@@ -1,177 +1,71 @@
-// The side information's reader, in document 01's order from the tail. A function reads up to three fields and hands what it
-// has to the one that reads on.
+// The side information's reader, in document 01's order from the tail.
 ghost use Rattle.std.specs.Prelude.{◌≡◌, ◌≤◌};
-ghost use Rattle.side_info.specs.Reader.{side_of, read_side, read_all};
-ghost use Rattle.side_info.specs.Private.{from_level, from_flags, from_sns, from_shape, from_filter};
+ghost use Rattle.common.specs.Reply.{answer_by};
+ghost use Rattle.side_info.specs.Reader.{reply_of, read_side};
+ghost use Rattle.side_info.specs.Private.{read_parts, read_sns};
 
-use crate::fields::{NumberRead, SideInfoError};
+use crate::fields::SideInfoError;
 use crate::{SideInfo, Sns, fields};
-use buffer_reader::{BufferError, Cursor};
-use common::configuration::{Configuration, FrameLines};
-
-#[derive(Clone, Copy)]
-pub enum SideRead {
-    Side(SideInfo, Cursor),
-    Refused(SideInfoError),
-}
-
-// What is read before the flags.
-#[derive(Clone, Copy)]
-pub(crate) struct Opening {
-    pub bandwidth: u32,
-    pub lastnz: u32,
-    pub lsb: u32,
-    pub gain: u32,
-}
-
-#[derive(Clone, Copy)]
-pub(crate) struct Flags {
-    pub first: u32,
-    pub second: u32,
-    pub pitch: u32,
-}
+use buffer_reader::Cursor;
+use common::configuration::Configuration;
 
 // Reads the side information of a frame of 20 to 400 bytes from any cursor.
-pub fn read(buf: &[u8], at: Cursor, configuration: Configuration) -> SideRead
-    ensures { side_of result ≡ read_side configuration buf.now at }
-{
-    match configuration.frame_lines(buf.len()) {
-        FrameLines::OutsideLimits => SideRead::Refused(SideInfoError::OutsideLimits),
-        FrameLines::WrongLength(len) => SideRead::Refused(SideInfoError::Buffer(
-            BufferError::WrongLength(len),
-        )),
-        FrameLines::Encoded(ne) => read_all(buf, at, configuration.fs_ind, ne),
-    }
-}
-
-pub(crate) fn read_all(buf: &[u8], at: Cursor, fs_ind: usize, ne: usize) -> SideRead
-    requires { (fs_ind ≤ 4) × (60 ≤ ne) × (ne ≤ 400) }
-    ensures { side_of result ≡ read_all fs_ind ne buf.now at }
-{
-    match fields::bandwidth(buf, at, fs_ind) {
-        NumberRead::Refused(e) => SideRead::Refused(e),
-        NumberRead::Number(bandwidth, c) => match fields::lastnz(buf, c, ne) {
-            NumberRead::Refused(e) => SideRead::Refused(e),
-            NumberRead::Number(lastnz, c) => from_level(buf, c, bandwidth, lastnz),
-        },
-    }
-}
-
-fn from_level(buf: &[u8], at: Cursor, bandwidth: u32, lastnz: u32) -> SideRead
-    ensures { side_of result ≡ from_level bandwidth lastnz buf.now at }
-{
-    match fields::flag(buf, at) {
-        NumberRead::Refused(e) => SideRead::Refused(e),
-        NumberRead::Number(lsb, c) => match fields::field(buf, c, 8) {
-            NumberRead::Refused(e) => SideRead::Refused(e),
-            NumberRead::Number(gain, c) => from_flags(
-                buf,
-                c,
-                Opening {
-                    bandwidth,
-                    lastnz,
-                    lsb,
-                    gain,
-                },
-            ),
-        },
-    }
-}
-
-fn from_flags(buf: &[u8], at: Cursor, opening: Opening) -> SideRead
-    ensures { side_of result ≡ from_flags opening buf.now at }
-{
-    match fields::flag(buf, at) {
-        NumberRead::Refused(e) => SideRead::Refused(e),
-        NumberRead::Number(first, c) => match fields::flag_if(buf, c, 3 <= opening.bandwidth) {
-            NumberRead::Refused(e) => SideRead::Refused(e),
-            NumberRead::Number(second, c) => match fields::flag(buf, c) {
-                NumberRead::Refused(e) => SideRead::Refused(e),
-                NumberRead::Number(pitch, c) => from_sns(
-                    buf,
-                    c,
-                    opening,
-                    Flags {
-                        first,
-                        second,
-                        pitch,
-                    },
-                ),
-            },
-        },
-    }
-}
-
-fn from_sns(buf: &[u8], at: Cursor, opening: Opening, flags: Flags) -> SideRead
-    ensures { side_of result ≡ from_sns opening flags buf.now at }
-{
-    match fields::field(buf, at, 5) {
-        NumberRead::Refused(e) => SideRead::Refused(e),
-        NumberRead::Number(lf, c) => match fields::field(buf, c, 5) {
-            NumberRead::Refused(e) => SideRead::Refused(e),
-            NumberRead::Number(hf, c) => match fields::flag(buf, c) {
-                NumberRead::Refused(e) => SideRead::Refused(e),
-                NumberRead::Number(msb, c) => from_shape(buf, c, opening, flags, lf, hf, msb),
-            },
-        },
-    }
-}
-
-fn from_shape(
+pub fn read(
     buf: &[u8],
     at: Cursor,
-    opening: Opening,
-    flags: Flags,
-    lf: u32,
-    hf: u32,
-    msb: u32,
-) -> SideRead
-    ensures { side_of result ≡ from_shape opening flags lf hf msb buf.now at }
+    configuration: Configuration,
+) -> Result<(SideInfo, Cursor), SideInfoError>
+    ensures { answer_by reply_of result ≡ read_side configuration buf.now at }
 {
-    match fields::field(buf, at, fields::by_msb(msb, 1, 2)) {
-        NumberRead::Refused(e) => SideRead::Refused(e),
-        NumberRead::Number(part, c) => match fields::flag(buf, c) {
-            NumberRead::Refused(e) => SideRead::Refused(e),
-            NumberRead::Number(ls_inda, c) => match fields::joint(buf, c, msb) {
-                NumberRead::Refused(e) => SideRead::Refused(e),
-                NumberRead::Number(joint, c) => from_filter(
-                    buf,
-                    c,
-                    opening,
-                    flags,
-                    fields::sns_of(lf, hf, msb, part, ls_inda, joint),
-                ),
-            },
-        },
-    }
+    let ne = configuration.frame_lines(buf.len())?;
+    read_all(buf, at, configuration.fs_ind, ne)
 }
 
-fn from_filter(buf: &[u8], at: Cursor, opening: Opening, flags: Flags, sns: Sns) -> SideRead
-    ensures { side_of result ≡ from_filter opening flags sns buf.now at }
+pub(crate) fn read_all(
+    buf: &[u8],
+    at: Cursor,
+    fs_ind: usize,
+    ne: usize,
+) -> Result<(SideInfo, Cursor), SideInfoError>
+    requires { (fs_ind ≤ 4) × (60 ≤ ne) × (ne ≤ 400) }
+    ensures { answer_by reply_of result ≡ read_parts fs_ind ne buf.now at }
 {
-    match fields::flag_if(buf, at, flags.pitch == 1) {
-        NumberRead::Refused(e) => SideRead::Refused(e),
-        NumberRead::Number(active, c) => match fields::field_if(buf, c, flags.pitch == 1, 9) {
-            NumberRead::Refused(e) => SideRead::Refused(e),
-            NumberRead::Number(index, c) => match fields::field(buf, c, 3) {
-                NumberRead::Refused(e) => SideRead::Refused(e),
-                NumberRead::Number(noise, c) => SideRead::Side(
-                    SideInfo {
-                        bandwidth: opening.bandwidth,
-                        lastnz: opening.lastnz,
-                        lsb: opening.lsb,
-                        gain: opening.gain,
-                        tns_first: flags.first,
-                        tns_second: flags.second,
-                        pitch: flags.pitch,
-                        sns,
-                        active,
-                        index,
-                        noise,
-                    },
-                    c,
-                ),
-            },
-        },
-    }
+    let (bandwidth, at) = fields::bandwidth(buf, at, fs_ind)?;
+    let (lastnz, at) = fields::lastnz(buf, at, ne)?;
+    let (lsb, at) = fields::flag(buf, at)?;
+    let (gain, at) = fields::field(buf, at, 8)?;
+    let (tns_first, at) = fields::flag(buf, at)?;
+    let (tns_second, at) = fields::flag_if(buf, at, 3 <= bandwidth)?;
+    let (pitch, at) = fields::flag(buf, at)?;
+    let (sns, at) = read_sns(buf, at)?;
+    let (active, at) = fields::flag_if(buf, at, pitch == 1)?;
+    let (index, at) = fields::field_if(buf, at, pitch == 1, 9)?;
+    let (noise, at) = fields::field(buf, at, 3)?;
+    let side = SideInfo {
+        bandwidth,
+        lastnz,
+        lsb,
+        gain,
+        tns_first,
+        tns_second,
+        pitch,
+        sns,
+        active,
+        index,
+        noise,
+    };
+    Ok((side, at))
+}
+
+// The two indices, and the second stage by the joint index.
+fn read_sns(buf: &[u8], at: Cursor) -> Result<(Sns, Cursor), SideInfoError>
+    ensures { answer_by reply_of result ≡ read_sns buf.now at }
+{
+    let (lf, at) = fields::field(buf, at, 5)?;
+    let (hf, at) = fields::field(buf, at, 5)?;
+    let (msb, at) = fields::flag(buf, at)?;
+    let (part, at) = fields::field(buf, at, fields::by_msb(msb, 1, 2))?;
+    let (ls_inda, at) = fields::flag(buf, at)?;
+    let (joint, at) = fields::joint(buf, at, msb)?;
+    Ok((fields::sns_of(lf, hf, msb, part, ls_inda, joint), at))
 }

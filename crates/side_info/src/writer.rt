@@ -1,14 +1,18 @@
 // The side information's writer: the record's fields laid behind one another at the tail of a lent frame.
 ghost use Rattle.std.specs.Prelude.{◌≡◌, true, ◌&&◌, leb, ltb, ◌+◌, ◌*◌, ◌≤◌, length};
+ghost use Rattle.common.specs.Reply.{answer_by};
+ghost use Rattle.common.specs.Configuration.{reply_of as Configuration·reply_of};
+ghost use Rattle.buffer_reader.specs.Reads;
 ghost use Rattle.side_info.specs.Joint.{part_of, joint_of};
 ghost use Rattle.side_info.specs.Record.{sns_passes, side_passes};
 ghost use Rattle.side_info.specs.Layout.{side_fields, length_of, room_for, put_fields};
-ghost use Rattle.side_info.specs.Writer.{written_of, write_side, side_written};
-ghost use Rattle.side_info.specs.Private.{room_of, write_fields, fields_written};
+ghost use Rattle.side_info.specs.Writer.{reply_of, write_side, side_written};
+ghost use Rattle.side_info.specs.Private.{write_fields, fields_written};
+ghost use Rattle.side_info.specs.declared.writer.SideWriteError.TheVariants.{Buffer};
 
 use crate::{SideInfo, Sns, fields, limits};
 use buffer_reader::{BufferError, Cursor};
-use common::configuration::{Configuration, FrameLines};
+use common::configuration::{Configuration, ConfigurationError};
 
 #[derive(Clone, Copy)]
 pub enum SideWriteError {
@@ -17,22 +21,31 @@ pub enum SideWriteError {
     Buffer(BufferError),
 }
 
-#[derive(Clone, Copy)]
-pub enum SideWritten {
-    At(Cursor),
-    Refused(SideWriteError),
+impl From<BufferError> for SideWriteError {
+    ghost from_gives = { λ e r. r ≡ Buffer e };
+
+    fn from(e: BufferError) -> SideWriteError {
+        SideWriteError::Buffer(e)
+    }
+}
+
+// Refusals 1 and 2 say here what they said there.
+impl From<ConfigurationError> for SideWriteError {
+    ghost from_gives = { λ e r. reply_of r ≡ Configuration·reply_of e };
+
+    fn from(e: ConfigurationError) -> SideWriteError {
+        match e {
+            ConfigurationError::OutsideLimits => SideWriteError::OutsideLimits,
+            ConfigurationError::WrongLength(len) => SideWriteError::Buffer(BufferError::WrongLength(
+                len,
+            )),
+        }
+    }
 }
 
 // A field's width, 0 where it is absent, and the number in it.
 #[derive(Clone, Copy)]
 pub struct Field(pub usize, pub u32);
-
-// The tail behind the fields, or refusal 9 for the first that has no room.
-#[derive(Clone, Copy)]
-pub(crate) enum Room {
-    Fits(usize),
-    Refused(BufferError),
-}
 
 // Writes a record at a cursor of a frame of 20 to 400 bytes.
 pub fn write(
@@ -40,95 +53,69 @@ pub fn write(
     at: Cursor,
     configuration: Configuration,
     side: SideInfo,
-) -> SideWritten
-    ensures answer { written_of result ≡ write_side configuration side buf.old at }
+) -> Result<Cursor, SideWriteError>
+    ensures answer { answer_by reply_of result ≡ write_side configuration side buf.old at }
     ensures lent { buf.new ≡ side_written configuration side buf.old at }
 {
-    match configuration.frame_lines(buf.len()) {
-        FrameLines::OutsideLimits => SideWritten::Refused(SideWriteError::OutsideLimits),
-        FrameLines::WrongLength(len) => SideWritten::Refused(SideWriteError::Buffer(
-            BufferError::WrongLength(len),
-        )),
-        FrameLines::Encoded(ne) => {
-            if !limits::side_passes(side, configuration.fs_ind, ne) {
-                return SideWritten::Refused(SideWriteError::FieldOutside);
-            }
-            let fields = fields_of(side, configuration.fs_ind, ne);
-            write_fields(buf, at, fields)
-        }
+    let ne = configuration.frame_lines(buf.len())?;
+    if !limits::side_passes(side, configuration.fs_ind, ne) {
+        return Err(SideWriteError::FieldOutside);
     }
+    let fields = fields_of(side, configuration.fs_ind, ne);
+    write_fields(buf, at, &fields)
 }
 
-fn write_fields(buf: &mut [u8], at: Cursor, fields: [Field; 16]) -> SideWritten
-    requires { (length buf.old ≤ 400) × (1 ≤ length_of fields) × (length fields ≡ 16) }
-    ensures answer { written_of result ≡ write_fields fields buf.old at }
-    ensures lent { buf.new ≡ fields_written fields buf.old at }
+fn write_fields(buf: &mut [u8], at: Cursor, fields: &[Field]) -> Result<Cursor, SideWriteError>
+    requires { (length buf.old ≤ 400) × (1 ≤ length_of fields.now) }
+    ensures answer { answer_by reply_of result ≡ write_fields fields.now buf.old at }
+    ensures lent { buf.new ≡ fields_written fields.now buf.old at }
 {
-    let place = at.tail;
-    let found = room_for(8 * buf.len(), place, fields);
-    match found {
-        Room::Refused(e) => SideWritten::Refused(SideWriteError::Buffer(e)),
-        Room::Fits(tail) => {
-            put_fields(buf, place, fields);
-            SideWritten::At(Cursor {
-                head: at.head,
-                tail,
-            })
-        }
-    }
+    let tail = room_for(8 * buf.len(), at.tail, fields)?;
+    put_fields(buf, at.tail, fields);
+    Ok(Cursor { tail, ..at })
 }
 
-fn room_for(bits: usize, place: usize, fields: [Field; 16]) -> Room
-    requires { length fields ≡ 16 }
-    ensures { room_of result ≡ room_for bits place fields }
+// The tail behind the fields, or refusal 9 for the first that has no room.
+fn room_for(bits: usize, place: usize, fields: &[Field]) -> Result<usize, BufferError>
+    ensures { answer_by Reads.reply_of result ≡ room_for bits place fields.now }
 {
     let mut tail = place;
-    let mut i = 0;
-    while i < 16 {
-        let field = fields[i];
-        let width = field.0;
+    for &Field(width, _) in fields {
         if passes_start(bits, tail, width) {
-            return Room::Refused(buffer_reader::inner::no_tail_room(width, tail));
+            return Err(buffer_reader::inner::no_tail_room(width, tail));
         }
         tail += width;
-        i += 1;
     }
-    Room::Fits(tail)
+    Ok(tail)
 }
 
-// The bits of fields: where they end in a frame that has room for them.
-pub(crate) fn length_of(fields: [Field; 16]) -> usize
-    requires { (length fields ≡ 16) × (length_of fields ≤ 3200) }
-    ensures { result ≡ length_of fields }
+// The bits of fields that lie in a frame.
+pub(crate) fn length_of(fields: &[Field]) -> usize
+    requires { length_of fields.now ≤ 3200 }
+    ensures { result ≡ length_of fields.now }
 {
-    match room_for(3200, 0, fields) {
-        Room::Refused(_) => 0,
-        Room::Fits(tail) => tail,
+    let mut bits = 0;
+    for &Field(width, _) in fields {
+        bits += width;
     }
+    bits
 }
 
 // Whether a field that is there passes the start.
 fn passes_start(bits: usize, tail: usize, width: usize) -> bool
     ensures { result ≡ (leb 1 width && ltb bits (tail + width)) }
 {
-    if width == 0 {
-        return false;
-    }
-    buffer_writer::inner::beyond(bits, tail, width)
+    1 <= width && buffer_writer::inner::beyond(bits, tail, width)
 }
 
-pub(crate) fn put_fields(buf: &mut [u8], place: usize, fields: [Field; 16])
-    requires { (length buf.old ≤ 400) × (place + length_of fields ≤ 8 * length buf.old) × (length fields ≡ 16) }
-    ensures { buf.new ≡ put_fields buf.old place fields }
+pub(crate) fn put_fields(buf: &mut [u8], place: usize, fields: &[Field])
+    requires { (length buf.old ≤ 400) × (place + length_of fields.now ≤ 8 * length buf.old) }
+    ensures { buf.new ≡ put_fields buf.old place fields.now }
 {
     let mut at = place;
-    let mut i = 0;
-    while i < 16 {
-        let field = fields[i];
-        let width = field.0;
-        buffer_writer::inner::put_field(buf, at, field.1, width);
+    for &Field(width, number) in fields {
+        buffer_writer::inner::put_field(buf, at, number, width);
         at += width;
-        i += 1;
     }
 }
 

@@ -5,14 +5,14 @@ use native.Mathlib.Omega.{arith}
 use Rattle.side_info.proofs.Widths.{lastnz-five, lastnz-six, lastnz-seven, lastnz-eight}
 use Rattle.side_info.proofs.fields.lastnz_bits.Goals as goal
 
-pub returns-then-half-le32 : goal.returns-then-half-le32
-returns-then-half-le32 c = sym (lastnz-five c.args.ne c.requires.0 c.if-half-le32.true)
+pub returns-in-0-to-32 : goal.returns-in-0-to-32
+returns-in-0-to-32 c = sym (lastnz-five c.args.ne c.requires.0 (omega arith))
 
-pub returns-then-half-le64 : goal.returns-then-half-le64
-returns-then-half-le64 c = sym (lastnz-six c.args.ne c.requires.0 c.if-half-le32.false c.if-half-le64.true)
+pub returns-in-33-to-64 : goal.returns-in-33-to-64
+returns-in-33-to-64 c = sym (lastnz-six c.args.ne c.requires.0 (omega arith) (omega arith))
 
-pub returns-then-half-le128 : goal.returns-then-half-le128
-returns-then-half-le128 c = sym (lastnz-seven c.args.ne c.requires.0 c.if-half-le64.false c.if-half-le128.true)
+pub returns-in-65-to-128 : goal.returns-in-65-to-128
+returns-in-65-to-128 c = sym (lastnz-seven c.args.ne c.requires.0 (omega arith) (omega arith))
 
-pub returns-else-half-le128 : goal.returns-else-half-le128
-returns-else-half-le128 c = sym (lastnz-eight c.args.ne c.requires.0 c.if-half-le128.false (omega arith))
+pub returns-in_default : goal.returns-in_default
+returns-in_default c = sym (lastnz-eight c.args.ne c.requires.0 (omega arith) (omega arith))

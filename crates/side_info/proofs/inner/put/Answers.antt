@@ -1,11 +1,10 @@
 -- `inner::put` meets its contract: the record's fields are laid behind one another. Assumes nothing.
-use mathlib.Core.Path.{refl}
 use Rattle.side_info.proofs.inner.put.Goals as goal
 
 pub put_fields-requires : goal.put_fields-requires
 put_fields-requires c =
     let p = c.requires in
-    rw c.fields_of-fields.ensures (p.4, p.5, refl)
+    rw c.fields_of.ensures (p.4, p.5)
 
 pub returns : goal.returns
-returns c = rw (← c.fields_of-fields.ensures) c.put_fields.ensures
+returns c = rw (← c.fields_of.ensures) c.put_fields.ensures

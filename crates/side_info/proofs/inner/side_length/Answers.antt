@@ -1,5 +1,5 @@
 -- `inner::side_length` meets its contract: the record's fields are at most 74 bits. Assumes nothing.
-use mathlib.Core.Path.{refl, ap, ◌∙◌}
+use mathlib.Core.Path.{ap, ◌∙◌}
 use native.Mathlib.Omega.{arith}
 use Rattle.side_info.specs.Layout.{length_of}
 use Rattle.side_info.proofs.Lengths.{length-range}
@@ -9,8 +9,7 @@ pub length_of-requires : goal.length_of-requires
 length_of-requires c =
     let a = c.args in
     let p = c.requires in
-    rw c.fields_of-fields.ensures
-    (refl, omega (arith, (length-range a.fs_ind a.ne a.side p.0 p.1 p.2).1))
+    rw c.fields_of.ensures (omega (arith, (length-range a.fs_ind a.ne a.side p.0 p.1 p.2).1))
 
 pub returns : goal.returns
-returns c = c.length_of.ensures ∙ ap length_of c.fields_of-fields.ensures
+returns c = c.length_of.ensures ∙ ap length_of c.fields_of.ensures

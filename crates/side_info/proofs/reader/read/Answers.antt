@@ -1,22 +1,12 @@
--- `reader::read` meets its contract: `frame_lines` decides refusals 1 and 2 and gives ne, and the fields follow.
+-- `reader::read` meets its contract: past refusals 1 and 2 the parts that are read make the definition's chain.
 -- Assumes nothing.
-use mathlib.Core.Path.{refl, sym, ap, ◌∙◌}
-use lib.ListN.{length}
-use Rattle.common.specs.Configuration.{frame_lines_of}
-use Rattle.common.proofs.Configurations.{frame-ranges}
+use mathlib.Core.Path.{sym, ◌∙◌}
+use Rattle.side_info.proofs.Answers.{chain-made, read-on}
 use Rattle.side_info.proofs.reader.read.Goals as goal
 
-pub read_all-requires : goal.read_all-requires
-read_all-requires c =
+pub returns : goal.returns
+returns c =
     let a = c.args in
-    let (low, least, most, _, _) = frame-ranges a.configuration (length a.buf.now) (sym c.frame_lines.ensures ∙ ap frame_lines_of c.in-Encoded.is) in
-    (low, least, most)
-
-pub returns-in-OutsideLimits : goal.returns-in-OutsideLimits
-returns-in-OutsideLimits c = rw (← c.frame_lines.ensures, c.in-OutsideLimits.is) refl
-
-pub returns-in-WrongLength : goal.returns-in-WrongLength
-returns-in-WrongLength c = rw (← c.frame_lines.ensures, c.in-WrongLength.is) refl
-
-pub returns-in-Encoded : goal.returns-in-Encoded
-returns-in-Encoded c = rw (← c.frame_lines.ensures, c.in-Encoded.is) c.read_all.ensures
+    c.read_all.ensures ∙
+    chain-made a.configuration.fs_ind c.in_ok-ne.ne a.buf.now a.at ∙
+    sym (read-on a.configuration a.buf.now a.at (sym c.in_ok-ne.ensures))
