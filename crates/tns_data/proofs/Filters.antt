@@ -6,49 +6,25 @@ use mathlib.Core.Bool.{true}
 use mathlib.Core.List.{List, ◌∷◌, ◌++◌, append_assoc}
 use native.Mathlib.Omega.{arith}
 use native.Mathlib.Nat.{sub-zero, zero-add}
-use borrow.Author.Tests.{eq-eqb, ne_eqb}
 use lib.ListN.{length, take, drop, replicate, length-append, length-replicate}
 use lib.Seq.{sets, sets-eq, length-sets, take-append-add, drop-append-add}
-use Rattle.common.specs.Reply.{Reply, Answer, accepted, refused, and_then, in_step, order}
-use Rattle.common.specs.Tables.{row_at, part_passes}
+use Rattle.std.specs.Prelude.{Result, Ok}
+use Rattle.common.specs.Reply.{Reply, Answer, accepted, refused}
+use Rattle.common.specs.Tables.{part_passes}
 use Rattle.common.proofs.Replies.{no-refusal, refusal_in, accepted-same}
 use Rattle.buffer_reader.specs.declared.Cursor.{Cursor}
 use Rattle.range_decoder.specs.Decoder.{range_passes}
 use Rattle.range_decoder.specs.declared.DecoderState.{DecoderState}
-use Rattle.coding.specs.Coding.{Coded, symbol_by, met_of}
+use Rattle.coding.specs.Coding.{Coded}
 use Rattle.coding.specs.declared.Met.{Met}
 use Rattle.coding.proofs.Keeps.{head-here, keeps-at}
-use Rattle.tns_data.specs.Tns.{Filter, Tns, read_indices, read_filter, read_tns, sixteen_of}
-use Rattle.tns_data.specs.Private.{Laid, Told, filter_of, indices_laid, laid, told}
-use Rattle.tns_data.specs.declared.inner.FilterRead.{FilterRead}
-use Rattle.tns_data.specs.declared.inner.FilterRead.TheVariants.{Order, Refused as FilterRefused}
+use Rattle.tns_data.specs.Tns.{Filter, Tns, read_filter, read_tns, sixteen_of}
+use Rattle.tns_data.specs.Private.{Laid, Told, filter_of, laid, told}
 use Rattle.tns_data.proofs.Within.{filter-keeps}
 
--- the indices of a filter, laid as the filter's
-filter-laid : (l : List ℕ) (at n : ℕ) (a : Answer (Coded (List ℕ) × Cursor)) →
-    laid l at (and_then a (λ r. accepted (record { value = record { order = n; indices = r.0.value }; state = r.0.state }, r.1))) ≡ indices_laid l at n a
-filter-laid l at n (accepted r) = refl
-filter-laid l at n (refused r) = refl
-
-module _ (orders coefficients : List ℕ) (weighting f flag : ℕ) (s : DecoderState) (frame : List ℕ) (c : Cursor) (l : List ℕ) (at : ℕ) where
-  pub filter-absent : (flag ≡ 1 → ⊥) → laid l at (read_filter orders coefficients weighting f flag s frame c) ≡ accepted (record { order = 0; places = l; state = s; cursor = c })
-  filter-absent unset = rw (ne_eqb flag 1 unset) refl
-
-  pub filter-refused : {r : Reply} → flag ≡ 1 → symbol_by (row_at 8 weighting orders) s frame c ≡ refused r →
-      laid l at (read_filter orders coefficients weighting f flag s frame c) ≡ refused (in_step (order f) r)
-  filter-refused set e = rw (eq-eqb flag 1 set, e) refl
-
-  pub filter-on : {k : ℕ} {t : DecoderState} {d : Cursor} → flag ≡ 1 → symbol_by (row_at 8 weighting orders) s frame c ≡ accepted (record { value = k; state = t }, d) →
-      laid l at (read_filter orders coefficients weighting f flag s frame c) ≡ indices_laid l at (k + 1) (read_indices coefficients f 0 (k + 1) t frame d)
-  filter-on {k} {t} {d} set e =
-      rw (eq-eqb flag 1 set, e) (filter-laid l at (k + 1) (read_indices coefficients f 0 (k + 1) t frame d))
-
--- what a call that read a filter says of its definition, by the case of its result
-pub told-order : (r : FilterRead) (places : List ℕ) {a : Answer Laid} {n : ℕ} {s : DecoderState} {c : Cursor} → filter_of r places ≡ a → r ≡ Order n s c → a ≡ accepted (record { order = n; places = places; state = s; cursor = c })
+-- what a call that read a filter says of its definition
+pub told-order : (r : Result (ℕ × DecoderState × Cursor) Met) (places : List ℕ) {a : Answer Laid} {n : ℕ} {s : DecoderState} {c : Cursor} → filter_of r places ≡ a → r ≡ Ok (n, s, c) → a ≡ accepted (record { order = n; places = places; state = s; cursor = c })
 told-order r places e g = sym e ∙ ap (λ q. filter_of q places) g
-
-pub told-met : (r : FilterRead) (places : List ℕ) {a : Answer Laid} {m : Met} → filter_of r places ≡ a → r ≡ FilterRefused m → a ≡ refused (met_of m)
-told-met r places e g = sym e ∙ ap (λ q. filter_of q places) g
 
 -- what was laid, by the filter that was read
 pub record Read (l : List ℕ) (at : ℕ) (a : Answer (Coded Filter × Cursor)) (x : Laid) : Type 0 where
@@ -67,10 +43,6 @@ laid-read l at (accepted r) x e =
       places-are = sym (ap (λ (y : Laid). y.places) q);
     }
 laid-read l at (refused r) x e = absurd (no-refusal (sym e))
-
-laid-refused : (l : List ℕ) (at : ℕ) (a : Answer (Coded Filter × Cursor)) {r : Reply} → laid l at a ≡ refused r → a ≡ refused r
-laid-refused l at (accepted x) e = absurd (no-refusal e)
-laid-refused l at (refused q) e = ap (λ x. refused (refusal_in q x)) e
 
 abbrev pub zeros : ℕ → List ℕ
 zeros n = replicate n 0
@@ -143,17 +115,7 @@ module _ (orders coefficients : List ℕ) (weighting : ℕ) (orders_pass : part_
         let read = laid-read l 0 (read_filter orders coefficients weighting 0 first_flag s frame c) x e in
         ap length read.places-are ∙ length-sets l 0 read.filter.indices
 
-    pub tns-first-refused : {r : Reply} → laid l 0 (read_filter orders coefficients weighting 0 first_flag s frame c) ≡ refused r →
-        told (read_tns orders coefficients weighting first_flag second_flag s frame c) ≡ refused r
-    tns-first-refused e = rw (laid-refused l 0 (read_filter orders coefficients weighting 0 first_flag s frame c) e) refl
-
     module _ {x : Laid} (first : laid l 0 (read_filter orders coefficients weighting 0 first_flag s frame c) ≡ accepted x) where
-      pub tns-second-refused : {r : Reply} → laid x.places 8 (read_filter orders coefficients weighting 1 second_flag x.state frame x.cursor) ≡ refused r →
-          told (read_tns orders coefficients weighting first_flag second_flag s frame c) ≡ refused r
-      tns-second-refused e =
-          let one = laid-read l 0 (read_filter orders coefficients weighting 0 first_flag s frame c) x first in
-          rw (one.was, laid-refused x.places 8 (read_filter orders coefficients weighting 1 second_flag x.state frame x.cursor) e) refl
-
       pub tns-both : {y : Laid} → l ≡ replicate 16 0 → laid x.places 8 (read_filter orders coefficients weighting 1 second_flag x.state frame x.cursor) ≡ accepted y →
           told (read_tns orders coefficients weighting first_flag second_flag s frame c) ≡ accepted (record { first = x.order; second = y.order; places = y.places; state = y.state; cursor = y.cursor })
       tns-both {y} clear e =

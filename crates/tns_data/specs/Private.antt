@@ -1,15 +1,12 @@
 -- Not needed to believe anything: what private contracts and proofs here speak by. No public contract cites it.
-use Rattle.std.specs.Prelude.{ℕ, List, take, drop}
+use Rattle.std.specs.Prelude.{ℕ, List, take, drop, Result, Ok, Err}
 use Rattle.std.proofs.lemmas.List.Edits.{sets}
 use Rattle.common.specs.Reply.{Answer, accepted, refused, and_then}
 use Rattle.buffer_reader.specs.declared.Cursor.{Cursor}
 use Rattle.range_decoder.specs.declared.DecoderState.{DecoderState}
 use Rattle.coding.specs.Coding.{Coded, met_of}
+use Rattle.coding.specs.declared.Met.{Met}
 use Rattle.tns_data.specs.Tns.{Filter, Tns, sixteen_of}
-use Rattle.tns_data.specs.declared.inner.TnsRead.{TnsRead}
-use Rattle.tns_data.specs.declared.inner.TnsRead.TheVariants.{Orders, Refused as TnsRefused}
-use Rattle.tns_data.specs.declared.inner.FilterRead.{FilterRead}
-use Rattle.tns_data.specs.declared.inner.FilterRead.TheVariants.{Order, Refused as FilterRefused}
 
 -- a filter as the code has it: its order, the sixteen places, and the state and the cursor behind it
 pub record Laid : Type 0 where
@@ -18,9 +15,10 @@ pub record Laid : Type 0 where
   pub state : DecoderState
   pub cursor : Cursor
 
-abbrev pub filter_of : FilterRead → List ℕ → Answer Laid
-filter_of (Order n s c) places = accepted (record { order = n; places = places; state = s; cursor = c })
-filter_of (FilterRefused e) places = refused (met_of e)
+-- what the result of a filter says, with the places behind it
+abbrev pub filter_of : Result (ℕ × DecoderState × Cursor) Met → List ℕ → Answer Laid
+filter_of (Ok (n, s, c)) places = accepted (record { order = n; places = places; state = s; cursor = c })
+filter_of (Err e) places = refused (met_of e)
 
 -- indices that were read, laid from a place on
 abbrev pub indices_laid : List ℕ → ℕ → ℕ → Answer (Coded (List ℕ) × Cursor) → Answer Laid
@@ -39,9 +37,10 @@ pub record Told : Type 0 where
   pub state : DecoderState
   pub cursor : Cursor
 
-abbrev pub tns_of : TnsRead → List ℕ → Answer Told
-tns_of (Orders m n s c) places = accepted (record { first = m; second = n; places = places; state = s; cursor = c })
-tns_of (TnsRefused e) places = refused (met_of e)
+-- what the result of both says
+abbrev pub tns_of : Result (ℕ × ℕ × DecoderState × Cursor) Met → List ℕ → Answer Told
+tns_of (Ok (m, n, s, c)) places = accepted (record { first = m; second = n; places = places; state = s; cursor = c })
+tns_of (Err e) places = refused (met_of e)
 
 abbrev pub told : Answer (Coded Tns × Cursor) → Answer Told
 told a =

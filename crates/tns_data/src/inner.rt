@@ -9,31 +9,13 @@ ghost use Rattle.tns_data.specs.Private.{tns_of, told, filter_of, laid, indices_
 
 use buffer_reader::Cursor;
 use coding::Met;
-use coding::inner::SymbolMet;
 use range_decoder::DecoderState;
 use range_encoder::EncoderState;
-
-// The two orders, with the state and the cursor behind them.
-#[derive(Clone, Copy)]
-pub enum TnsRead {
-    Orders(usize, usize, DecoderState, Cursor),
-    Refused(Met),
-}
-
-#[derive(Clone, Copy)]
-enum FilterRead {
-    Order(usize, DecoderState, Cursor),
-    Refused(Met),
-}
 
 pub fn weighting_row(duration: usize, bits: usize) -> usize
     ensures { result ≡ weighting_row duration bits }
 {
-    if bits < weighting_limit(duration) {
-        1
-    } else {
-        0
-    }
+    usize::from(bits < weighting_limit(duration))
 }
 
 fn weighting_limit(duration: usize) -> usize
@@ -51,27 +33,20 @@ fn read_indices(
     filter: usize,
     order: usize,
     indices: &mut [usize; 16],
-) -> FilterRead
+) -> Result<(usize, DecoderState, Cursor), Met>
     requires { (length buf.now ≤ 65535) × (range_passes state.range ≡ true) × (part_passes 8 17 coefficients.now ≡ true) × (filter ≤ 1) × (order ≤ 8) × (length indices.old ≡ 16) }
     ensures { filter_of result indices.new ≡ indices_laid indices.old (8 * filter) order (read_indices coefficients.now filter 0 order state buf.now at) }
 {
     let mut s = state;
     let mut c = at;
-    let mut k: usize = 0;
-    while k < order {
-        match coding::inner::symbol(s, buf, c, coefficients, k * 17, 17) {
-            SymbolMet::Symbol(index, next_state, next) => {
-                indices[8 * filter + k] = index;
-                s = next_state;
-                c = next;
-                k += 1;
-            }
-            SymbolMet::Refused(e) => {
-                return FilterRead::Refused(Met::Coef(filter, k, e));
-            }
-        }
+    for k in 0..order {
+        let read = coding::inner::symbol(s, buf, c, coefficients, k * 17, 17);
+        let (index, next_state, next) = read.map_err(|e| Met::Coef(filter, k, e))?;
+        indices[8 * filter + k] = index;
+        s = next_state;
+        c = next;
     }
-    FilterRead::Order(order, s, c)
+    Ok((order, s, c))
 }
 
 // A filter: where its flag is set, its order and as many indices.
@@ -85,22 +60,19 @@ fn read_filter(
     filter: usize,
     flag: u32,
     indices: &mut [usize; 16],
-) -> FilterRead
+) -> Result<(usize, DecoderState, Cursor), Met>
     requires { (length buf.now ≤ 65535) × (range_passes state.range ≡ true) × (part_passes 2 8 orders.now ≡ true) × (part_passes 8 17 coefficients.now ≡ true) × (weighting ≤ 1) × (filter ≤ 1) × (length indices.old ≡ 16) }
     ensures { filter_of result indices.new ≡ laid indices.old (8 * filter) (read_filter orders.now coefficients.now weighting filter flag state buf.now at) }
 {
     if flag != 1 {
-        return FilterRead::Order(0, state, at);
+        return Ok((0, state, at));
     }
-    match coding::inner::symbol(state, buf, at, orders, weighting * 8, 8) {
-        SymbolMet::Symbol(k, next_state, next) => {
-            read_indices(next_state, buf, next, coefficients, filter, k + 1, indices)
-        }
-        SymbolMet::Refused(e) => FilterRead::Refused(Met::Order(filter, e)),
-    }
+    let read = coding::inner::symbol(state, buf, at, orders, weighting * 8, 8);
+    let (k, next_state, next) = read.map_err(|e| Met::Order(filter, e))?;
+    read_indices(next_state, buf, next, coefficients, filter, k + 1, indices)
 }
 
-// Both filters, into sixteen places that hold 0.
+// Both filters, into sixteen places that hold 0: the two orders, with the state and the cursor behind them.
 pub fn read_tns(
     state: DecoderState,
     buf: &[u8],
@@ -111,11 +83,11 @@ pub fn read_tns(
     first_flag: u32,
     second_flag: u32,
     indices: &mut [usize; 16],
-) -> TnsRead
+) -> Result<(usize, usize, DecoderState, Cursor), Met>
     requires { (length buf.now ≤ 65535) × (range_passes state.range ≡ true) × (part_passes 2 8 orders.now ≡ true) × (part_passes 8 17 coefficients.now ≡ true) × (weighting ≤ 1) × (indices.old ≡ replicate 16 0) }
     ensures { tns_of result indices.new ≡ told (read_tns orders.now coefficients.now weighting first_flag second_flag state buf.now at) }
 {
-    match read_filter(
+    let (first, s, c) = read_filter(
         state,
         buf,
         at,
@@ -125,27 +97,19 @@ pub fn read_tns(
         0,
         first_flag,
         indices,
-    ) {
-        FilterRead::Order(first, s, c) => {
-            match read_filter(
-                s,
-                buf,
-                c,
-                orders,
-                coefficients,
-                weighting,
-                1,
-                second_flag,
-                indices,
-            ) {
-                FilterRead::Order(second, last_state, last) => {
-                    TnsRead::Orders(first, second, last_state, last)
-                }
-                FilterRead::Refused(e) => TnsRead::Refused(e),
-            }
-        }
-        FilterRead::Refused(e) => TnsRead::Refused(e),
-    }
+    )?;
+    let (second, last_state, last) = read_filter(
+        s,
+        buf,
+        c,
+        orders,
+        coefficients,
+        weighting,
+        1,
+        second_flag,
+        indices,
+    )?;
+    Ok((first, second, last_state, last))
 }
 
 // Whether the writer takes both filters beside their flags.

@@ -19,34 +19,20 @@ fn places_pass(indices: [usize; 16], from: usize, order: usize) -> bool
     requires { (length indices ≡ 16) × (from ≤ 8) }
     ensures { result ≡ places_pass order (take 8 (drop from indices)) }
 {
-    let mut k: usize = 0;
-    while k < 8 {
+    for k in 0..8 {
         if !place_passes(order, k, indices[from + k]) {
             return false;
         }
-        k += 1;
     }
     true
 }
 
-// The flag of a filter of an order.
-fn flag_of(order: usize) -> u32
-    ensures { result ≡ cond (eqb order 0) 0 1 }
-{
-    if order == 0 { 0 } else { 1 }
-}
-
+// A filter beside its flag, which is set where the order is not 0.
 fn filter_passes(flag: u32, order: usize, indices: [usize; 16], from: usize) -> bool
     requires { (length indices ≡ 16) × (from ≤ 8) }
     ensures { result ≡ filter_passes flag order (take 8 (drop from indices)) }
 {
-    if 8 < order {
-        return false;
-    }
-    if flag != flag_of(order) {
-        return false;
-    }
-    places_pass(indices, from, order)
+    order <= 8 && flag == u32::from(order != 0) && places_pass(indices, from, order)
 }
 
 // Both filters, each beside its flag.
@@ -60,10 +46,8 @@ pub(crate) fn tns_passes(
     requires { length indices ≡ 16 }
     ensures { result ≡ tns_passes first_flag second_flag first_order second_order indices }
 {
-    if !filter_passes(first_flag, first_order, indices, 0) {
-        return false;
-    }
-    filter_passes(second_flag, second_order, indices, 8)
+    filter_passes(first_flag, first_order, indices, 0)
+        && filter_passes(second_flag, second_order, indices, 8)
 }
 
 // So many indices of a filter, each by its own row, from a place on.
@@ -81,10 +65,8 @@ fn send_indices(
     ensures lent { buf.new ≡ laid_all writing st buf.old (sent_indices coefficients.now 0 (take order (drop from indices))) }
 {
     let mut s = st;
-    let mut k: usize = 0;
-    while k < order {
+    for k in 0..order {
         s = sending::inner::symbol(buf, s, writing, coefficients, 17, k, indices[from + k]);
-        k += 1;
     }
     s
 }

@@ -2,38 +2,23 @@
 -- from places 0 and 8 on, are the definition's sixteen. Assumes nothing.
 use mathlib.Core.Path.{sym, ap, ◌∙◌}
 use native.Mathlib.Omega.{arith}
-use Rattle.tns_data.proofs.Filters.{told-order, told-met, first_range, first-length, tns-first-refused, tns-second-refused, tns-both}
+use Rattle.tns_data.proofs.Filters.{told-order, first_range, first-length, tns-both}
 use lib.ListN.{length}
 use Rattle.tns_data.proofs.inner.read_tns.Goals as goal
 
-pub read_filter-requires-in-Order : goal.read_filter-requires-in-Order
-read_filter-requires-in-Order c =
+pub read_filter-requires-2 : goal.read_filter-requires-2
+read_filter-requires-2 c =
     let a = c.args in
     let p = c.requires in
-    let e = told-order c.read_filter.result c.read_filter.new.indices c.read_filter.ensures c.in-Order.is in
+    let e = told-order c.read_filter.result c.read_filter.new.indices c.read_filter.ensures c.in_ok-first.was in
     (p.0, first_range a.orders.now a.coefficients.now a.weighting p.2 p.3 p.4 a.buf.now p.0 a.first_flag a.second_flag a.state a.at p.1 a.indices.now e, p.2, p.3, p.4, omega arith, first-length a.orders.now a.coefficients.now a.weighting p.2 p.3 p.4 a.buf.now p.0 a.first_flag a.second_flag a.state a.at p.1 a.indices.now e ∙ ap length p.5)
 
-pub returns-in-Order-read_filter : goal.returns-in-Order-read_filter
-returns-in-Order-read_filter c =
+pub returns : goal.returns
+returns c =
     let a = c.args in
     let p = c.requires in
     sym
     (tns-both a.orders.now a.coefficients.now a.weighting p.2 p.3 p.4 a.buf.now p.0 a.first_flag a.second_flag a.state a.at p.1 a.indices.now
-    (told-order c.read_filter.result c.read_filter.new.indices c.read_filter.ensures c.in-Order.is)
+    (told-order c.read_filter.result c.read_filter.new.indices c.read_filter.ensures c.in_ok-first.was)
     p.5
-    (told-order c.read_filter-in-Order.result c.read_filter-in-Order.new.indices c.read_filter-in-Order.ensures c.in-Order-read_filter.is))
-
-pub returns-in-Refused-read_filter : goal.returns-in-Refused-read_filter
-returns-in-Refused-read_filter c =
-    let a = c.args in
-    let p = c.requires in
-    sym
-    (tns-second-refused a.orders.now a.coefficients.now a.weighting p.2 p.3 p.4 a.buf.now p.0 a.first_flag a.second_flag a.state a.at p.1 a.indices.now
-    (told-order c.read_filter.result c.read_filter.new.indices c.read_filter.ensures c.in-Order.is)
-    (told-met c.read_filter-in-Order.result c.read_filter-in-Order.new.indices c.read_filter-in-Order.ensures c.in-Refused-read_filter.is))
-
-pub returns-in-Refused : goal.returns-in-Refused
-returns-in-Refused c =
-    let a = c.args in
-    let p = c.requires in
-    sym (tns-first-refused a.orders.now a.coefficients.now a.weighting p.2 p.3 p.4 a.buf.now p.0 a.first_flag a.second_flag a.state a.at p.1 a.indices.now (told-met c.read_filter.result c.read_filter.new.indices c.read_filter.ensures c.in-Refused.is))
+    (told-order c.read_filter-2.result c.read_filter-2.new.indices c.read_filter-2.ensures c.in_ok-second.was))

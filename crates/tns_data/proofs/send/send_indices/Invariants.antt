@@ -1,14 +1,9 @@
 -- `send::send_indices` meets its contract: the indices from place k on, from the state and the buffer as they are, make what all make.
 -- Assumes nothing.
-use Prim.Native.Nat.{◌-◌, ◌≤◌}
 use Rattle.sending.proofs.Left.{Left}
 use Rattle.tns_data.proofs.Leaves.{all_indices, indices_from}
 use Rattle.tns_data.proofs.send.send_indices.Given as goal
 
 abbrev pub invariant-loop-k : goal.invariant-loop-k
 invariant-loop-k l =
-    (l.k ≤ l.order) ×
     (Left l.writing l.initial.s l.initial.buf (all_indices l.coefficients l.indices l.from l.order) l.s l.buf (indices_from l.coefficients l.indices l.from l.order l.k))
-
-abbrev pub decreases-loop-k : goal.decreases-loop-k
-decreases-loop-k l = l.order - l.k
