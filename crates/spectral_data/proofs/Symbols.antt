@@ -9,9 +9,9 @@ use lib.IntN.{pos, neg_ℤ}
 use Rattle.common.specs.Reply.{symbol, bit, fourteen_escapes}
 use Rattle.common.specs.Tables.{row_at}
 use Rattle.contexts.specs.Contexts.{row_of, escape_symbol, first_part, second_part, lookup_start}
-use Rattle.coding.specs.Coding.{Coding, done, onward, met, symbol_by, tail_bit_by}
+use Rattle.coding.specs.Coding.{Coding, done, onward, met, tail_bit_by}
 use Rattle.spectral_data.specs.Spectral.{Pair, Levels, low_bits, behind_escape, read_levels, read_sign, read_pair, read_pairs}
-use Rattle.spectral_data.specs.Private.{signs_by}
+use Rattle.spectral_data.specs.Private.{read_symbol, signs_by}
 use Rattle.spectral_data.proofs.Heads.{Forward, Still, still-done, still-onward, still-if, still-refusing, still-bit, forward-still, forward-onward, forward-if, forward-symbol}
 
 still-low : (lsb : Bool) (p level : ℕ) → Still (low_bits lsb p level)
@@ -53,7 +53,7 @@ pub record SamePair (x y : Pair) : Type 0 where
 
 module _ (lookup frequencies : List ℕ) (standard lsb : Bool) where
   abbrev pub symbol_at : ℕ → ℕ → ℕ → Coding ℕ
-  symbol_at p t level = met (symbol p level) (symbol_by (row_at 17 (row_of lookup t level) frequencies))
+  symbol_at = read_symbol lookup frequencies
 
   -- what follows a symbol
   abbrev pub levels_on : ℕ → ℕ → ℕ → ℕ → ℕ → ℕ → ℕ → Coding Levels

@@ -1,7 +1,7 @@
 -- Not needed to believe anything: what private contracts and proofs here speak by. No public contract cites it.
-use Rattle.std.specs.Prelude.{ℕ, ◌+◌, ◌*◌, ◌^◌, ◌≤◌, ◌<◌, ◌≡◌, Bool, true, cond, List, ◌++◌, ◌⊎◌, ltb, ℤ, length, drop}
+use Rattle.std.specs.Prelude.{Result, Ok, Err, ℕ, ◌+◌, ◌*◌, ◌^◌, ◌≤◌, ◌<◌, ◌≡◌, Bool, true, cond, List, ◌++◌, ◌⊎◌, ltb, ℤ, length, drop}
 use Rattle.common.specs.Reply.{Reply, Answer, accepted, refused, symbol, fourteen_escapes}
-use Rattle.common.specs.Tables.{row_at, lookup_passes, part_passes}
+use Rattle.common.specs.Tables.{row_at}
 use Rattle.contexts.specs.Contexts.{row_of, escape_symbol, first_part, second_part}
 use Rattle.contexts.specs.Lines.{magnitude_at}
 use Rattle.buffer_reader.specs.declared.Cursor.{Cursor}
@@ -10,31 +10,20 @@ use Rattle.range_decoder.specs.declared.DecoderState.{DecoderState}
 use Rattle.sending.specs.Sending.{Bit}
 use Rattle.sending.specs.Private.{put_all}
 use Rattle.coding.specs.Coding.{Coded, Coding, done, onward, met, symbol_by, met_of}
+use Rattle.coding.specs.declared.Met.{Met}
 use Rattle.spectral_data.specs.Spectral.{Pair, Levels, behind_escape, read_sign, lines_of}
 use Rattle.spectral_data.specs.Spectral.{levels_of as levels_in·pairs}
 use Rattle.spectral_data.specs.declared.inner.PairsError.{PairsError}
 use Rattle.spectral_data.specs.declared.inner.PairsError.TheVariants.{Step, FourteenEscapes}
-use Rattle.spectral_data.specs.declared.inner.LowBits.{LowBits}
-use Rattle.spectral_data.specs.declared.inner.LowBits.TheVariants.{Bits, Refused as LowRefused}
 use Rattle.spectral_data.specs.declared.inner.Turn.{Turn}
-use Rattle.spectral_data.specs.declared.inner.Turn.TheVariants.{Last, Escape, Refused as TurnRefused}
+use Rattle.spectral_data.specs.declared.inner.Turn.TheVariants.{Last, Escape}
 use Rattle.spectral_data.specs.declared.inner.Levels.{Levels as LevelsHeld}
-use Rattle.spectral_data.specs.declared.inner.LevelsRead.{LevelsRead}
-use Rattle.spectral_data.specs.declared.inner.LevelsRead.TheVariants.{Read as LevelsAt, Refused as LevelsRefused}
-use Rattle.spectral_data.specs.declared.inner.LineRead.{LineRead}
-use Rattle.spectral_data.specs.declared.inner.LineRead.TheVariants.{Line, Refused as LineRefused}
 use Rattle.spectral_data.specs.declared.inner.Pair.{Pair as PairHeld}
-use Rattle.spectral_data.specs.declared.inner.PairRead.{PairRead}
-use Rattle.spectral_data.specs.declared.inner.PairRead.TheVariants.{Read as PairAt, Refused as PairRefused}
-use Rattle.spectral_data.specs.declared.inner.PairsRead.{PairsRead}
-use Rattle.spectral_data.specs.declared.inner.PairsRead.TheVariants.{At, Refused as PairsRefused}
 
 -- what the frame's reader has judged before this stage
-pub record Judged (f : List ℕ) (s : DecoderState) (lookup frequencies : List ℕ) : Type 0 where
+pub record Judged (f : List ℕ) (s : DecoderState) : Type 0 where
   pub short : length f ≤ 65535
   pub range : range_passes s.range ≡ true
-  pub looked : lookup_passes lookup ≡ true
-  pub rows : part_passes 64 17 frequencies ≡ true
 
 -- what the frame's writer has judged: no line is -32768
 abbrev pub Modest : List ℤ → Type 0
@@ -45,9 +34,13 @@ pub data Turned : Type 0 where
   last : ℕ → Turned
   escape : ℕ → ℕ → Turned
 
+-- a symbol of pair p at a level; t is where its lookup begins
+abbrev pub read_symbol : List ℕ → List ℕ → ℕ → ℕ → ℕ → Coding ℕ
+read_symbol lookup frequencies p t level = met (symbol p level) (symbol_by (row_at 17 (row_of lookup t level) frequencies))
+
 abbrev pub turn_by : List ℕ → List ℕ → Bool → Bool → ℕ → ℕ → ℕ → Coding Turned
 turn_by lookup frequencies standard lsb p t level =
-    onward (met (symbol p level) (symbol_by (row_at 17 (row_of lookup t level) frequencies)))
+    onward (read_symbol lookup frequencies p t level)
     (λ k. cond (ltb k escape_symbol)
     (done (last k))
     (onward (behind_escape standard lsb p level) (λ low. done (escape low.0 low.1))))
@@ -77,37 +70,44 @@ abbrev pub error_of : PairsError → Reply
 error_of (Step m) = met_of m
 error_of (FourteenEscapes p) = fourteen_escapes p
 
-abbrev pub low_of : DecoderState → LowBits → Answer (Coded (ℕ × ℕ) × Cursor)
-low_of s (Bits a b c) = accepted (record { value = (a, b); state = s }, c)
-low_of s (LowRefused e) = refused (error_of e)
+abbrev pub low_of : DecoderState → Result (ℕ × ℕ × Cursor) PairsError → Answer (Coded (ℕ × ℕ) × Cursor)
+low_of s (Ok (a, b, c)) = accepted (record { value = (a, b); state = s }, c)
+low_of s (Err e) = refused (error_of e)
 
-abbrev pub turn_of : Turn → Answer (Coded Turned × Cursor)
-turn_of (Last k s c) = accepted (record { value = last k; state = s }, c)
-turn_of (Escape a b s c) = accepted (record { value = escape a b; state = s }, c)
-turn_of (TurnRefused e) = refused (error_of e)
+abbrev pub symbol_of : Result (ℕ × DecoderState × Cursor) Met → Answer (Coded ℕ × Cursor)
+symbol_of (Ok (k, s, c)) = accepted (record { value = k; state = s }, c)
+symbol_of (Err m) = refused (met_of m)
+
+abbrev pub turned_of : Turn → Coded Turned × Cursor
+turned_of (Last k s c) = (record { value = last k; state = s }, c)
+turned_of (Escape a b s c) = (record { value = escape a b; state = s }, c)
+
+abbrev pub turn_of : Result Turn PairsError → Answer (Coded Turned × Cursor)
+turn_of (Ok t) = accepted (turned_of t)
+turn_of (Err e) = refused (error_of e)
 
 abbrev pub levels_in : LevelsHeld → Levels
 levels_in l = record { escapes = l.escapes; last = l.last; low_first = l.low_first; low_second = l.low_second }
 
-abbrev pub levels_of : LevelsRead → Answer (Coded Levels × Cursor)
-levels_of (LevelsAt l s c) = accepted (record { value = levels_in l; state = s }, c)
-levels_of (LevelsRefused e) = refused (error_of e)
+abbrev pub levels_of : Result (LevelsHeld × DecoderState × Cursor) PairsError → Answer (Coded Levels × Cursor)
+levels_of (Ok (l, s, c)) = accepted (record { value = levels_in l; state = s }, c)
+levels_of (Err e) = refused (error_of e)
 
-abbrev pub line_of : DecoderState → LineRead → Answer (Coded ℤ × Cursor)
-line_of s (Line x c) = accepted (record { value = x; state = s }, c)
-line_of s (LineRefused e) = refused (error_of e)
+abbrev pub line_of : DecoderState → Result (ℤ × Cursor) PairsError → Answer (Coded ℤ × Cursor)
+line_of s (Ok (x, c)) = accepted (record { value = x; state = s }, c)
+line_of s (Err e) = refused (error_of e)
 
 abbrev pub pair_in : PairHeld → Pair
 pair_in x = record { escapes = x.escapes; last = x.last; first = x.first; second = x.second }
 
-abbrev pub pair_of : PairRead → Answer (Coded Pair × Cursor)
-pair_of (PairAt x s c) = accepted (record { value = pair_in x; state = s }, c)
-pair_of (PairRefused e) = refused (error_of e)
+abbrev pub pair_of : Result (PairHeld × DecoderState × Cursor) PairsError → Answer (Coded Pair × Cursor)
+pair_of (Ok (x, s, c)) = accepted (record { value = pair_in x; state = s }, c)
+pair_of (Err e) = refused (error_of e)
 
 -- the answer, with what the two arrays hold behind it where it is accepted
-abbrev pub pairs_of : PairsRead → List ℤ → List ℕ → Answer (Coded (List ℤ × List ℕ) × Cursor)
-pairs_of (At s c) lines levels = accepted (record { value = (lines, levels); state = s }, c)
-pairs_of (PairsRefused e) lines levels = refused (error_of e)
+abbrev pub pairs_of : Result (DecoderState × Cursor) PairsError → List ℤ → List ℕ → Answer (Coded (List ℤ × List ℕ) × Cursor)
+pairs_of (Ok (s, c)) lines levels = accepted (record { value = (lines, levels); state = s }, c)
+pairs_of (Err e) lines levels = refused (error_of e)
 
 -- bits put, or counted alone, from a place on, with the place behind them
 pub record Put (writing : Bool) (f : List ℕ) (place : ℕ) (bits : List Bit) (next : ℕ) (g : List ℕ) : Type 0 where

@@ -1,18 +1,16 @@
 // The spectral stage on what the frame's reader has judged: nothing but 9, 10, 11 and 19 is left to refuse.
 ghost use Rattle.std.specs.Prelude.{◌≡◌, true, cond, ◌&&◌, ◌+◌, ◌*◌, ◌^◌, ◌≤◌, ◌<◌, eqb, pos, neg_ℤ, length, set};
-ghost use Rattle.common.specs.Tables.{lookup_passes, part_passes};
-ghost use Rattle.sending.specs.Private.{Ready, sent_all, laid_all};
-ghost use Rattle.spectral_data.specs.Sent.{sent_pairs};
+ghost use Rattle.sending.specs.Private.{Ready, sent_all, laid_all, Puts, put_all};
 ghost use Rattle.range_decoder.specs.declared.DecoderState.{DecoderState as State};
 ghost use Rattle.contexts.specs.Contexts.{first_part, second_part, next_context};
+ghost use Rattle.spectral_data.specs.Sent.{sent_pairs, pairs_bits};
 ghost use Rattle.spectral_data.specs.Spectral.{low_bits, behind_escape, read_levels, read_sign, read_pair, read_pairs};
-ghost use Rattle.sending.specs.Private.{Puts, put_all};
-ghost use Rattle.spectral_data.specs.Sent.{pairs_bits};
-ghost use Rattle.spectral_data.specs.Private.{Judged, Bounded, low_of, turn_by, turn_of, levels_in, levels_of, line_of, signs_by, pair_of, filling, pairs_of};
+ghost use Rattle.spectral_data.specs.Private.{Judged, Bounded, low_of, read_symbol, symbol_of, turn_by, turn_of, levels_in, levels_of, line_of, signs_by, pair_of, filling, pairs_of};
+ghost use Rattle.spectral_data.specs.declared.inner.PairsError.TheVariants.{Step};
 
 use buffer_reader::Cursor;
 use coding::Met;
-use coding::inner::{BitMet, SymbolMet};
+use common::table_set::PassedSet;
 use range_decoder::DecoderState;
 use range_encoder::EncoderState;
 
@@ -23,11 +21,12 @@ pub enum PairsError {
     FourteenEscapes(usize),
 }
 
-// The two tail bits behind an escape.
-#[derive(Clone, Copy)]
-pub(crate) enum LowBits {
-    Bits(u32, u32, Cursor),
-    Refused(PairsError),
+impl From<Met> for PairsError {
+    ghost from_gives = { λ m e. e ≡ Step m };
+
+    fn from(m: Met) -> PairsError {
+        PairsError::Step(m)
+    }
 }
 
 // One level of a pair: its last symbol, or an escape with its tail bits.
@@ -35,7 +34,6 @@ pub(crate) enum LowBits {
 pub(crate) enum Turn {
     Last(usize, DecoderState, Cursor),
     Escape(u32, u32, DecoderState, Cursor),
-    Refused(PairsError),
 }
 
 // A pair before its signs: the low bits of both lines, one of each for a level.
@@ -48,18 +46,6 @@ pub(crate) struct Levels {
 }
 
 #[derive(Clone, Copy)]
-pub(crate) enum LevelsRead {
-    Read(Levels, DecoderState, Cursor),
-    Refused(PairsError),
-}
-
-#[derive(Clone, Copy)]
-pub(crate) enum LineRead {
-    Line(i32, Cursor),
-    Refused(PairsError),
-}
-
-#[derive(Clone, Copy)]
 pub(crate) struct Pair {
     pub escapes: usize,
     pub last: usize,
@@ -67,52 +53,37 @@ pub(crate) struct Pair {
     pub second: i32,
 }
 
-#[derive(Clone, Copy)]
-pub(crate) enum PairRead {
-    Read(Pair, DecoderState, Cursor),
-    Refused(PairsError),
-}
-
-#[derive(Clone, Copy)]
-pub enum PairsRead {
-    At(DecoderState, Cursor),
-    Refused(PairsError),
-}
-
 // In least-bit mode an escape has no tail bits at level 0.
 pub(crate) fn without_bits(lsb: bool, level: usize) -> bool
     ensures { result ≡ (lsb && eqb level 0) }
 {
-    if lsb {
-        return level == 0;
-    }
-    false
+    lsb && level == 0
 }
 
-fn low_bits(buf: &[u8], at: Cursor, lsb: bool, p: usize, level: usize) -> LowBits
+// The two tail bits behind an escape.
+fn low_bits(
+    buf: &[u8],
+    at: Cursor,
+    lsb: bool,
+    p: usize,
+    level: usize,
+) -> Result<(u32, u32, Cursor), PairsError>
     requires { length buf.now ≤ 65535 }
     ensures { (s : State) → low_of s result ≡ low_bits lsb p level s buf.now at }
 {
     if without_bits(lsb, level) {
-        return LowBits::Bits(0, 0, at);
+        return Ok((0, 0, at));
     }
-    match coding::inner::bit(buf, at) {
-        BitMet::Bit(a, next) => match coding::inner::bit(buf, next) {
-            BitMet::Bit(b, behind) => LowBits::Bits(a, b, behind),
-            BitMet::Refused(e) => LowBits::Refused(PairsError::Step(Met::Bit(p, level, e))),
-        },
-        BitMet::Refused(e) => LowBits::Refused(PairsError::Step(Met::Bit(p, level, e))),
-    }
+    let (a, next) = coding::inner::bit(buf, at).map_err(|e| Met::Bit(p, level, e))?;
+    let (b, behind) = coding::inner::bit(buf, next).map_err(|e| Met::Bit(p, level, e))?;
+    Ok((a, b, behind))
 }
 
 // Levels go from 0: the fourteenth escape stands at 13. Only in the standard reading is it damage.
 fn is_damage(standard: bool, level: usize) -> bool
     ensures { result ≡ (standard && eqb level 13) }
 {
-    if !standard {
-        return false;
-    }
-    level == 13
+    standard && level == 13
 }
 
 // What comes behind an escape: its tail bits, and before those of the fourteenth 19.
@@ -123,14 +94,33 @@ fn behind_escape(
     lsb: bool,
     p: usize,
     level: usize,
-) -> LowBits
+) -> Result<(u32, u32, Cursor), PairsError>
     requires { length buf.now ≤ 65535 }
     ensures { (s : State) → low_of s result ≡ behind_escape standard lsb p level s buf.now at }
 {
     if is_damage(standard, level) {
-        return LowBits::Refused(PairsError::FourteenEscapes(p));
+        return Err(PairsError::FourteenEscapes(p));
     }
     low_bits(buf, at, lsb, p, level)
+}
+
+// A symbol of pair p, by the row that the lookup names.
+fn read_symbol(
+    state: DecoderState,
+    buf: &[u8],
+    at: Cursor,
+    tables: &PassedSet,
+    p: usize,
+    start: usize,
+    level: usize,
+) -> Result<(usize, DecoderState, Cursor), Met>
+    requires { Judged buf.now state × (start < 1024) }
+    ensures { symbol_of result ≡ read_symbol tables.now.lookup.now tables.now.frequencies.now p start level state buf.now at }
+{
+    let row = contexts::inner::row(tables.lookup, start, level);
+    coding::inner::symbol(state, buf, at, tables.frequencies, row * 17, 17).map_err(|e| Met::Symbol(
+        p, level, e,
+    ))
 }
 
 // One symbol of pair p, and behind an escape its tail bits.
@@ -138,30 +128,22 @@ fn read_turn(
     state: DecoderState,
     buf: &[u8],
     at: Cursor,
-    lookup: &[u8],
-    frequencies: &[u16],
+    tables: &PassedSet,
     standard: bool,
     lsb: bool,
     p: usize,
     start: usize,
     level: usize,
-) -> Turn
-    requires { Judged buf.now state lookup.now frequencies.now × (start < 1024) }
-    ensures { turn_of result ≡ turn_by lookup.now frequencies.now standard lsb p start level state buf.now at }
+) -> Result<Turn, PairsError>
+    requires { Judged buf.now state × (start < 1024) }
+    ensures { turn_of result ≡ turn_by tables.now.lookup.now tables.now.frequencies.now standard lsb p start level state buf.now at }
 {
-    let row = contexts::inner::row(lookup, start, level);
-    match coding::inner::symbol(state, buf, at, frequencies, row * 17, 17) {
-        SymbolMet::Symbol(k, after, next) => {
-            if k < 16 {
-                return Turn::Last(k, after, next);
-            }
-            match behind_escape(buf, next, standard, lsb, p, level) {
-                LowBits::Bits(a, b, behind) => Turn::Escape(a, b, after, behind),
-                LowBits::Refused(e) => Turn::Refused(e),
-            }
-        }
-        SymbolMet::Refused(e) => Turn::Refused(PairsError::Step(Met::Symbol(p, level, e))),
+    let (k, after, next) = read_symbol(state, buf, at, tables, p, start, level)?;
+    if k < 16 {
+        return Ok(Turn::Last(k, after, next));
     }
+    let (a, b, behind) = behind_escape(buf, next, standard, lsb, p, level)?;
+    Ok(Turn::Escape(a, b, after, behind))
 }
 
 // What a part of a magnitude is worth at a level.
@@ -178,52 +160,35 @@ fn read_levels(
     state: DecoderState,
     buf: &[u8],
     at: Cursor,
-    lookup: &[u8],
-    frequencies: &[u16],
+    tables: &PassedSet,
     standard: bool,
     lsb: bool,
     p: usize,
     start: usize,
-) -> LevelsRead
-    requires { Judged buf.now state lookup.now frequencies.now × (start < 1024) }
-    ensures { levels_of result ≡ read_levels lookup.now frequencies.now standard lsb p start 14 0 0 0 state buf.now at }
+) -> Result<(Levels, DecoderState, Cursor), PairsError>
+    requires { Judged buf.now state × (start < 1024) }
+    ensures { levels_of result ≡ read_levels tables.now.lookup.now tables.now.frequencies.now standard lsb p start 14 0 0 0 state buf.now at }
 {
     let mut here = state;
     let mut place = at;
     let mut low_first = 0;
     let mut low_second = 0;
-    let mut level = 0;
-    while level < 14 {
-        match read_turn(
-            here,
-            buf,
-            place,
-            lookup,
-            frequencies,
-            standard,
-            lsb,
-            p,
-            start,
-            level,
-        ) {
-            Turn::Last(k, after, next) => {
+    for level in 0usize..14 {
+        match read_turn(here, buf, place, tables, standard, lsb, p, start, level)? {
+            Turn::Last(last, after, next) => {
                 let read = Levels {
                     escapes: level,
-                    last: k,
+                    last,
                     low_first,
                     low_second,
                 };
-                return LevelsRead::Read(read, after, next);
+                return Ok((read, after, next));
             }
             Turn::Escape(a, b, after, next) => {
                 low_first += raised(a, level);
                 low_second += raised(b, level);
                 here = after;
                 place = next;
-                level += 1;
-            }
-            Turn::Refused(e) => {
-                return LevelsRead::Refused(e);
             }
         }
     }
@@ -233,7 +198,7 @@ fn read_levels(
         low_first,
         low_second,
     };
-    LevelsRead::Read(read, here, place)
+    Ok((read, here, place))
 }
 
 fn signed(minus: u32, magnitude: u32) -> i32
@@ -248,44 +213,57 @@ fn signed(minus: u32, magnitude: u32) -> i32
 }
 
 // A line by its magnitude: what is above 0 has a sign.
-fn signed_line(buf: &[u8], at: Cursor, p: usize, level: usize, magnitude: u32) -> LineRead
+fn signed_line(
+    buf: &[u8],
+    at: Cursor,
+    p: usize,
+    level: usize,
+    magnitude: u32,
+) -> Result<(i32, Cursor), PairsError>
     requires { (length buf.now ≤ 65535) × (magnitude ≤ 81919) }
     ensures { (s : State) → line_of s result ≡ read_sign p level magnitude s buf.now at }
 {
-    if 0 < magnitude {
-        match coding::inner::bit(buf, at) {
-            BitMet::Bit(minus, next) => LineRead::Line(signed(minus, magnitude), next),
-            BitMet::Refused(e) => LineRead::Refused(PairsError::Step(Met::Bit(p, level, e))),
-        }
-    } else {
-        LineRead::Line(0, at)
+    if magnitude == 0 {
+        return Ok((0, at));
     }
+    let (minus, next) = coding::inner::bit(buf, at).map_err(|e| Met::Bit(p, level, e))?;
+    Ok((signed(minus, magnitude), next))
 }
 
 // The two lines of a pair whose symbols are read.
-fn signs(buf: &[u8], at: Cursor, p: usize, read: Levels, state: DecoderState) -> PairRead
+fn signs(
+    buf: &[u8],
+    at: Cursor,
+    p: usize,
+    read: Levels,
+    state: DecoderState,
+) -> Result<(Pair, DecoderState, Cursor), PairsError>
     requires { (length buf.now ≤ 65535) × Bounded (levels_in read) }
     ensures { pair_of result ≡ signs_by p (levels_in read) state buf.now at }
 {
-    let level = read.escapes;
+    let escapes = read.escapes;
     let last = read.last;
-    let first = read.low_first + raised((last % 4) as u32, level);
-    let second = read.low_second + raised((last / 4) as u32, level);
-    match signed_line(buf, at, p, level, first) {
-        LineRead::Line(x, next) => match signed_line(buf, next, p, level, second) {
-            LineRead::Line(y, behind) => {
-                let pair = Pair {
-                    escapes: level,
-                    last,
-                    first: x,
-                    second: y,
-                };
-                PairRead::Read(pair, state, behind)
-            }
-            LineRead::Refused(e) => PairRead::Refused(e),
-        },
-        LineRead::Refused(e) => PairRead::Refused(e),
-    }
+    let (first, next) = signed_line(
+        buf,
+        at,
+        p,
+        escapes,
+        read.low_first + raised((last % 4) as u32, escapes),
+    )?;
+    let (second, behind) = signed_line(
+        buf,
+        next,
+        p,
+        escapes,
+        read.low_second + raised((last / 4) as u32, escapes),
+    )?;
+    let pair = Pair {
+        escapes,
+        last,
+        first,
+        second,
+    };
+    Ok((pair, state, behind))
 }
 
 // Pair p, whose lookup begins at start.
@@ -293,20 +271,17 @@ fn read_pair(
     state: DecoderState,
     buf: &[u8],
     at: Cursor,
-    lookup: &[u8],
-    frequencies: &[u16],
+    tables: &PassedSet,
     standard: bool,
     lsb: bool,
     p: usize,
     start: usize,
-) -> PairRead
-    requires { Judged buf.now state lookup.now frequencies.now × (start < 1024) }
-    ensures { pair_of result ≡ read_pair lookup.now frequencies.now standard lsb p start state buf.now at }
+) -> Result<(Pair, DecoderState, Cursor), PairsError>
+    requires { Judged buf.now state × (start < 1024) }
+    ensures { pair_of result ≡ read_pair tables.now.lookup.now tables.now.frequencies.now standard lsb p start state buf.now at }
 {
-    match read_levels(state, buf, at, lookup, frequencies, standard, lsb, p, start) {
-        LevelsRead::Read(read, after, next) => signs(buf, next, p, read, after),
-        LevelsRead::Refused(e) => PairRead::Refused(e),
-    }
+    let (read, after, next) = read_levels(state, buf, at, tables, standard, lsb, p, start)?;
+    signs(buf, next, p, read, after)
 }
 
 // Pair p where its lines and its level belong.
@@ -316,11 +291,8 @@ fn store(lines: &mut [i32], levels: &mut [u8], p: usize, pair: Pair)
     ensures levels_after { levels.new ≡ set levels.old p pair.escapes }
 {
     let k = 2 * p;
-    let first = pair.first;
-    lines[k] = first;
-    let next = k + 1;
-    let second = pair.second;
-    lines[next] = second;
+    lines[k] = pair.first;
+    lines[k + 1] = pair.second;
     levels[p] = pair.escapes as u8;
 }
 
@@ -329,8 +301,7 @@ pub fn read_pairs(
     state: DecoderState,
     buf: &[u8],
     at: Cursor,
-    lookup: &[u8],
-    frequencies: &[u16],
+    tables: &PassedSet,
     standard: bool,
     lsb: bool,
     rate: usize,
@@ -338,40 +309,22 @@ pub fn read_pairs(
     pairs: usize,
     lines: &mut [i32],
     levels: &mut [u8],
-) -> PairsRead
-    requires { Judged buf.now state lookup.now frequencies.now × (rate ≤ 512) × (pairs ≤ 200) × (2 * pairs ≤ length lines.old) × (pairs ≤ length levels.old) }
-    ensures { pairs_of result lines.new levels.new ≡ filling pairs lines.old levels.old (read_pairs lookup.now frequencies.now standard lsb rate ne 0 pairs 0) state buf.now at }
+) -> Result<(DecoderState, Cursor), PairsError>
+    requires { Judged buf.now state × (rate ≤ 512) × (pairs ≤ 200) × (2 * pairs ≤ length lines.old) × (pairs ≤ length levels.old) }
+    ensures { pairs_of result lines.new levels.new ≡ filling pairs lines.old levels.old (read_pairs tables.now.lookup.now tables.now.frequencies.now standard lsb rate ne 0 pairs 0) state buf.now at }
 {
     let mut here = state;
     let mut place = at;
     let mut context = 0;
-    let mut p = 0;
-    while p < pairs {
+    for p in 0..pairs {
         let start = contexts::inner::lookup_start(context, rate, ne, 2 * p);
-        match read_pair(
-            here,
-            buf,
-            place,
-            lookup,
-            frequencies,
-            standard,
-            lsb,
-            p,
-            start,
-        ) {
-            PairRead::Read(read, after, next) => {
-                store(lines, levels, p, read);
-                context = context_behind(context, read);
-                here = after;
-                place = next;
-                p += 1;
-            }
-            PairRead::Refused(e) => {
-                return PairsRead::Refused(e);
-            }
-        }
+        let (read, after, next) = read_pair(here, buf, place, tables, standard, lsb, p, start)?;
+        store(lines, levels, p, read);
+        context = context_behind(context, read);
+        here = after;
+        place = next;
     }
-    PairsRead::At(here, place)
+    Ok((here, place))
 }
 
 // The context behind a pair goes by its symbols alone.
@@ -387,28 +340,17 @@ pub fn send_pairs(
     buf: &mut [u8],
     st: EncoderState,
     writing: bool,
-    lookup: &[u8],
-    frequencies: &[u16],
+    tables: &PassedSet,
     rate: usize,
     ne: usize,
     lines: &[i16],
     pairs: usize,
 ) -> EncoderState
-    requires { (lookup_passes lookup.now ≡ true) × (part_passes 64 17 frequencies.now ≡ true) × (rate ≤ 512) × (2 * pairs ≤ length lines.now) × (pairs ≤ 200) × Ready writing st (length buf.old) (sent_pairs lookup.now frequencies.now rate ne lines.now 0 pairs 0) }
-    ensures state { result ≡ sent_all writing st (sent_pairs lookup.now frequencies.now rate ne lines.now 0 pairs 0) }
-    ensures lent { buf.new ≡ laid_all writing st buf.old (sent_pairs lookup.now frequencies.now rate ne lines.now 0 pairs 0) }
+    requires { (rate ≤ 512) × (2 * pairs ≤ length lines.now) × (pairs ≤ 200) × Ready writing st (length buf.old) (sent_pairs tables.now.lookup.now tables.now.frequencies.now rate ne lines.now 0 pairs 0) }
+    ensures state { result ≡ sent_all writing st (sent_pairs tables.now.lookup.now tables.now.frequencies.now rate ne lines.now 0 pairs 0) }
+    ensures lent { buf.new ≡ laid_all writing st buf.old (sent_pairs tables.now.lookup.now tables.now.frequencies.now rate ne lines.now 0 pairs 0) }
 {
-    crate::send::pairs(
-        buf,
-        st,
-        writing,
-        lookup,
-        frequencies,
-        rate,
-        ne,
-        lines,
-        pairs,
-    )
+    crate::send::pairs(buf, st, writing, tables, rate, ne, lines, pairs)
 }
 
 // The tail bits of so many pairs, written or counted alone. Returns the place behind them.

@@ -46,10 +46,8 @@ fn put_lows(
     ensures { (k : ℕ) → Put writing buf.old place (lows_from lsb k a b 0 n) result buf.new }
 {
     let mut at = place;
-    let mut level = 0;
-    while level < n {
+    for level in 0..n {
         at = put_low(buf, writing, at, lsb, a, b, level);
-        level += 1;
     }
     at
 }
@@ -58,13 +56,11 @@ fn put_lows(
 fn early(lsb: bool, n: usize, magnitude: usize) -> usize
     ensures { result ≡ Sent·early lsb n magnitude }
 {
-    if !lsb {
-        return magnitude;
+    if lsb && 0 < n {
+        magnitude / 2
+    } else {
+        magnitude
     }
-    if n == 0 {
-        return magnitude;
-    }
-    magnitude / 2
 }
 
 // The sign of line k, in a pair with n escapes.
@@ -120,10 +116,8 @@ pub(crate) fn put_pairs(
     ensures lent { buf.new ≡ put_all writing buf.old place (pairs_bits lsb lines.now 0 pairs) }
 {
     let mut at = place;
-    let mut p = 0;
-    while p < pairs {
+    for p in 0..pairs {
         at = put_pair(buf, writing, at, lsb, lines, p);
-        p += 1;
     }
     at
 }

@@ -4,20 +4,13 @@ use Rattle.spectral_data.proofs.Pairs.{fill_from}
 use Rattle.spectral_data.specs.Private.{filling}
 use Rattle.spectral_data.specs.Spectral.{read_pairs}
 use Rattle.range_decoder.specs.Decoder.{range_passes}
-use lib.ListN.{length}
 use mathlib.Core.Path.{◌≡◌}
 use mathlib.Core.Bool.{true}
-use Prim.Native.Nat.{◌-◌, ◌≤◌}
+use Prim.Native.Nat.{◌≤◌}
 use Rattle.spectral_data.proofs.inner.read_pairs.Given as goal
 
 abbrev pub invariant-loop-p : goal.invariant-loop-p
 invariant-loop-p l =
-    (l.p ≤ l.pairs) ×
     (l.context ≤ 255) ×
     (range_passes l.here.range ≡ true) ×
-    (length l.lines ≡ length l.initial.lines) ×
-    (length l.levels ≡ length l.initial.levels) ×
-    (fill_from l.lookup l.frequencies l.standard l.lsb l.rate l.ne l.p l.pairs l.context l.lines l.levels l.here l.buf l.place ≡ filling l.pairs l.initial.lines l.initial.levels (read_pairs l.lookup l.frequencies l.standard l.lsb l.rate l.ne 0 l.pairs 0) l.initial.here l.buf l.initial.place)
-
-abbrev pub decreases-loop-p : goal.decreases-loop-p
-decreases-loop-p l = l.pairs - l.p
+    (fill_from l.tables.lookup.now l.tables.frequencies.now l.standard l.lsb l.rate l.ne l.p l.pairs l.context l.lines l.levels l.here l.buf l.place ≡ filling l.pairs l.initial.lines l.initial.levels (read_pairs l.tables.lookup.now l.tables.frequencies.now l.standard l.lsb l.rate l.ne 0 l.pairs 0) l.initial.here l.buf l.initial.place)

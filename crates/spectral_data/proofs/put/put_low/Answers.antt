@@ -1,15 +1,14 @@
 -- `put::put_low` meets its contract: where level 0 comes late there is no bit, else there are both.
 -- Assumes nothing.
 use Prim.Native.Nat.{◌+◌, ◌/◌, ◌%◌, ◌^◌}
-use mathlib.Core.Path.{◌≡◌, refl, sym, ap, ◌∙◌}
+use mathlib.Core.Path.{◌≡◌, sym, ap, ◌∙◌}
 use mathlib.Core.Bool.{false, ◌&&◌}
 use mathlib.Core.List.{[], ◌∷◌}
-use native.Mathlib.Omega.{arith}
 use lib.Dec.{eqb}
 use lib.ListN.{length}
 use Rattle.sending.specs.Sending.{low, owned}
 use Rattle.spectral_data.specs.Sent.{low_at}
-use Rattle.spectral_data.proofs.Puts.{put-none, put_one, put-behind, puts-part, low-none, low-both}
+use Rattle.spectral_data.proofs.Puts.{put-none, put_one, put-behind, low-none, low-both}
 use Rattle.spectral_data.proofs.put.put_low.Goals as goal
 use Rattle.spectral_data.proofs.put.put_low.Goals.{Else-without_bits}
 
@@ -24,12 +23,6 @@ pub returns-then-without_bits : goal.returns-then-without_bits
 returns-then-without_bits c =
     let a = c.args in
     λ k. rw (low-none a.lsb k a.a a.b a.level (sym c.without_bits.ensures ∙ c.if-without_bits.true)) (put-none a.writing a.buf.now a.place)
-
-pub bit-next-requires : goal.bit-next-requires
-bit-next-requires c = (omega (arith, c.bit_of.ensures), puts-part _ _ 1 c.requires.1 (omega (arith, two (goal.at.bit-next-requires c).Else-without_bits)) refl)
-
-pub bit-requires : goal.bit-requires
-bit-requires c = (omega (arith, c.bit_of-2.ensures), puts-part _ _ 1 c.requires.1 (omega (arith, two (goal.at.bit-requires c).Else-without_bits, c.bit-next.ensures.next)) c.buf-1.given)
 
 pub returns : goal.returns
 returns c =

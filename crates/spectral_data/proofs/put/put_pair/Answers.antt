@@ -9,7 +9,7 @@ use Rattle.contexts.specs.Lines.{magnitude_at, escapes_at}
 use Rattle.contexts.proofs.Magnitudes.{magnitude-read}
 use Rattle.spectral_data.specs.Sent.{lows_from, sign_at, pair_bits}
 use Rattle.spectral_data.specs.Private.{Put}
-use Rattle.spectral_data.proofs.Puts.{put-behind, put-length, puts-part, lows-size, pair_size}
+use Rattle.spectral_data.proofs.Puts.{put-behind, puts-part, lows-size, pair_size}
 use Rattle.spectral_data.proofs.put.put_pair.Goals as goal
 use Rattle.spectral_data.proofs.put.put_pair.Goals.{After-magnitude_at-b}
 
@@ -32,12 +32,6 @@ size c =
 
 pub put_lows-signs-requires : goal.put_lows-signs-requires
 put_lows-signs-requires c = (omega (arith, c.escapes_at-n.ensures.1), puts-part _ _ _ c.requires.1 (omega (arith, size (goal.at.put_lows-signs-requires c).After-magnitude_at-b)) refl)
-
-pub put_sign-second-requires : goal.put_sign-second-requires
-put_sign-second-requires c = (omega arith, puts-part _ _ _ c.requires.1 (omega (arith, size (goal.at.put_sign-second-requires c).After-magnitude_at-b, (c.put_lows-signs.ensures 0).behind)) (put-length _ (c.put_lows-signs.ensures 0)))
-
-pub put_sign-requires : goal.put_sign-requires
-put_sign-requires c = (omega arith, puts-part _ _ _ c.requires.1 (omega (arith, size (goal.at.put_sign-requires c).After-magnitude_at-b, (c.put_lows-signs.ensures 0).behind, c.put_sign-second.ensures.behind)) (put-length _ c.put_sign-second.ensures ∙ put-length _ (c.put_lows-signs.ensures 0)))
 
 pub returns : goal.returns
 returns c =

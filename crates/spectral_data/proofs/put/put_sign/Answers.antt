@@ -1,13 +1,11 @@
 -- `put::put_sign` meets its contract: what is left of the magnitude has a sign exactly if it is above 0.
 -- Assumes nothing.
-use mathlib.Core.Path.{◌≡◌, refl, ap, ◌∙◌}
-use native.Mathlib.Omega.{arith}
-use lib.ListN.{length}
+use mathlib.Core.Path.{◌≡◌, ap, ◌∙◌}
 use Rattle.contexts.specs.Lines.{line_at, magnitude_at, minus}
 use Rattle.contexts.proofs.Magnitudes.{magnitude-read}
 use Rattle.sending.specs.Sending.{sign}
-use Rattle.spectral_data.specs.Sent.{sign_at, early}
-use Rattle.spectral_data.proofs.Puts.{put-none, put_one, puts-part, sign-none, sign-one}
+use Rattle.spectral_data.specs.Sent.{early}
+use Rattle.spectral_data.proofs.Puts.{put-none, put_one, sign-none, sign-one}
 use Rattle.spectral_data.proofs.put.put_sign.Goals as goal
 use Rattle.spectral_data.proofs.put.put_sign.Goals.{After-early}
 
@@ -21,12 +19,6 @@ pub returns-then-early-eq0 : goal.returns-then-early-eq0
 returns-then-early-eq0 c =
     let a = c.args in
     rw (sign-none a.lsb a.n a.lines.now a.k c.early.result (told (goal.at.returns-then-early-eq0 c).After-early) c.if-early-eq0.true) (put-none a.writing a.buf.now a.place)
-
-pub bit-requires : goal.bit-requires
-bit-requires c =
-    let a = c.args in
-    let one : length (sign_at a.lsb a.n a.lines.now a.k) ≡ 1 = ap length (sign-one a.lsb a.n a.lines.now a.k c.early.result (told (goal.at.bit-requires c).After-early) c.if-early-eq0.false) in
-    (c.minus_at.ensures.1, puts-part _ _ 1 c.requires.1 (omega (arith, one)) refl)
 
 pub returns : goal.returns
 returns c =

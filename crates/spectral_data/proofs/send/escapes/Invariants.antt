@@ -2,13 +2,9 @@
 -- Assumes nothing.
 use Rattle.sending.proofs.Left.{Left}
 use Rattle.spectral_data.specs.Sent.{sent_escapes}
-use Prim.Native.Nat.{◌-◌, ◌≤◌}
+use Prim.Native.Nat.{◌-◌}
 use Rattle.spectral_data.proofs.send.escapes.Given as goal
 
 abbrev pub invariant-loop-level : goal.invariant-loop-level
 invariant-loop-level l =
-    (l.level ≤ l.n) ×
-    Left l.writing l.initial.here l.initial.buf (sent_escapes l.lookup l.frequencies l.start 0 l.n) l.here l.buf (sent_escapes l.lookup l.frequencies l.start l.level (l.n - l.level))
-
-abbrev pub decreases-loop-level : goal.decreases-loop-level
-decreases-loop-level l = l.n - l.level
+    Left l.writing l.initial.here l.initial.buf (sent_escapes l.tables.lookup.now l.tables.frequencies.now l.start 0 l.n) l.here l.buf (sent_escapes l.tables.lookup.now l.tables.frequencies.now l.start l.level (l.n - l.level))

@@ -7,9 +7,5 @@ use Rattle.spectral_data.proofs.send.pairs.Given as goal
 
 abbrev pub invariant-loop-p : goal.invariant-loop-p
 invariant-loop-p l =
-    (l.p ≤ l.pairs) ×
-    Left l.writing l.initial.here l.initial.buf (sent_pairs l.lookup l.frequencies l.rate l.ne l.lines 0 l.pairs 0) l.here l.buf (sent_pairs l.lookup l.frequencies l.rate l.ne l.lines l.p (l.pairs - l.p) l.context) ×
+    Left l.writing l.initial.here l.initial.buf (sent_pairs l.tables.lookup.now l.tables.frequencies.now l.rate l.ne l.lines 0 l.pairs 0) l.here l.buf (sent_pairs l.tables.lookup.now l.tables.frequencies.now l.rate l.ne l.lines l.p (l.pairs - l.p) l.context) ×
     (l.context ≤ 255)
-
-abbrev pub decreases-loop-p : goal.decreases-loop-p
-decreases-loop-p l = l.pairs - l.p
