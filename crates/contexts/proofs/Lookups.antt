@@ -6,11 +6,11 @@ use mathlib.Core.Bool.{true}
 use mathlib.Core.List.{List}
 use native.Mathlib.Omega.{arith}
 use native.Mathlib.Nat.{mul-le-mul, add-zero}
-use borrow.Author.Tests.{lt-ltb, le-ltb, leb-true, eqb-true}
+use borrow.Author.Tests.{lt-ltb, le-ltb, leb-true}
 use lib.Dec.{leb, ltb, eqb}
 use lib.ListN.{length}
 use Rattle.common.specs.Tables.{all_at_most, lookup_passes}
-use Rattle.common.proofs.Bools.{and_left, and_right, by-test}
+use Rattle.common.proofs.Bools.{and_right, by-test}
 use Rattle.common.proofs.Rows.{at_most}
 use Rattle.contexts.specs.Contexts.{rate_flag, lookup_start, row_of, trace, next_context, shifted, escapes, context_behind}
 use Rattle.contexts.proofs.Escapes.{escapes-law}
@@ -41,9 +41,6 @@ pub index-low : (t level : ℕ) → t < 1024 → t + 1024 * min level 3 < 4096
 index-low t level h = omega arith
 
 module _ (lookup : List ℕ) (passed : lookup_passes lookup ≡ true) where
-  pub lookup-length : length lookup ≡ 4096
-  lookup-length = eqb-true (length lookup) 4096 (and_left (eqb (length lookup) 4096) (all_at_most 63 lookup) passed)
-
   pub row_low : (t level : ℕ) → row_of lookup t level ≤ 63
   row_low t level = at_most 63 lookup (t + 1024 * min level 3) (and_right (eqb (length lookup) 4096) (all_at_most 63 lookup) passed)
 

@@ -1,6 +1,6 @@
 // The stage's parts, which the frame's reader and its writer call behind their checks. No bit is refused here: the room says that its
 // byte is there.
-ghost use Rattle.std.specs.Prelude.{◌≡◌, ◌+◌, ◌*◌, ◌%◌, ◌<◌, ◌≤◌, min, [], ◌∷◌, ◌++◌, length, take, drop, if◌then◌else◌, ◌==◌, nat_eq, unsigned_abs};
+ghost use Rattle.std.specs.Prelude.{◌≡◌, ◌+◌, ◌*◌, ◌<◌, ◌≤◌, min, [], ◌∷◌, ◌++◌, length, take, drop, if◌then◌else◌, nat_eq, unsigned_abs};
 ghost use Rattle.buffer_reader.specs.Tail.{tail_bit};
 ghost use Rattle.residual_data.specs.Residual.{used_bits, bits_from, residual_list, late_line, escaped_by, late_from};
 ghost use Rattle.residual_data.specs.Residual.{available as Residual·available, nonzero as Residual·nonzero, larger as Residual·larger};
