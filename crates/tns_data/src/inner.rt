@@ -1,6 +1,5 @@
 // The TNS data behind checks that the caller has made: the frame's length, the state's range and the two parts of the table set.
 ghost use Rattle.std.specs.Prelude.{◌≡◌, true, cond, eqb, ◌≤◌, ◌*◌, length, replicate};
-ghost use Rattle.common.specs.Tables.{part_passes};
 ghost use Rattle.range_decoder.specs.Decoder.{range_passes};
 ghost use Rattle.tns_data.specs.Tns.{weighting_row, read_indices, read_filter, read_tns};
 ghost use Rattle.sending.specs.Private.{Ready, sent_all, laid_all};
@@ -9,6 +8,7 @@ ghost use Rattle.tns_data.specs.Private.{tns_of, told, filter_of, laid, indices_
 
 use buffer_reader::Cursor;
 use coding::Met;
+use common::table_set::PassedSet;
 use range_decoder::DecoderState;
 use range_encoder::EncoderState;
 
@@ -29,18 +29,18 @@ fn read_indices(
     state: DecoderState,
     buf: &[u8],
     at: Cursor,
-    coefficients: &[u16],
+    tables: &PassedSet,
     filter: usize,
     order: usize,
     indices: &mut [usize; 16],
 ) -> Result<(usize, DecoderState, Cursor), Met>
-    requires { (length buf.now ≤ 65535) × (range_passes state.range ≡ true) × (part_passes 8 17 coefficients.now ≡ true) × (filter ≤ 1) × (order ≤ 8) × (length indices.old ≡ 16) }
-    ensures { filter_of result indices.new ≡ indices_laid indices.old (8 * filter) order (read_indices coefficients.now filter 0 order state buf.now at) }
+    requires { (length buf.now ≤ 65535) × (range_passes state.range ≡ true) × (filter ≤ 1) × (order ≤ 8) × (length indices.old ≡ 16) }
+    ensures { filter_of result indices.new ≡ indices_laid indices.old (8 * filter) order (read_indices tables.now.coefficients.now filter 0 order state buf.now at) }
 {
     let mut s = state;
     let mut c = at;
     for k in 0..order {
-        let read = coding::inner::symbol(s, buf, c, coefficients, k * 17, 17);
+        let read = coding::inner::symbol(s, buf, c, tables.coefficients, k * 17, 17);
         let (index, next_state, next) = read.map_err(|e| Met::Coef(filter, k, e))?;
         indices[8 * filter + k] = index;
         s = next_state;
@@ -54,22 +54,21 @@ fn read_filter(
     state: DecoderState,
     buf: &[u8],
     at: Cursor,
-    orders: &[u16],
-    coefficients: &[u16],
+    tables: &PassedSet,
     weighting: usize,
     filter: usize,
     flag: u32,
     indices: &mut [usize; 16],
 ) -> Result<(usize, DecoderState, Cursor), Met>
-    requires { (length buf.now ≤ 65535) × (range_passes state.range ≡ true) × (part_passes 2 8 orders.now ≡ true) × (part_passes 8 17 coefficients.now ≡ true) × (weighting ≤ 1) × (filter ≤ 1) × (length indices.old ≡ 16) }
-    ensures { filter_of result indices.new ≡ laid indices.old (8 * filter) (read_filter orders.now coefficients.now weighting filter flag state buf.now at) }
+    requires { (length buf.now ≤ 65535) × (range_passes state.range ≡ true) × (weighting ≤ 1) × (filter ≤ 1) × (length indices.old ≡ 16) }
+    ensures { filter_of result indices.new ≡ laid indices.old (8 * filter) (read_filter tables.now.orders.now tables.now.coefficients.now weighting filter flag state buf.now at) }
 {
     if flag != 1 {
         return Ok((0, state, at));
     }
-    let read = coding::inner::symbol(state, buf, at, orders, weighting * 8, 8);
+    let read = coding::inner::symbol(state, buf, at, tables.orders, weighting * 8, 8);
     let (k, next_state, next) = read.map_err(|e| Met::Order(filter, e))?;
-    read_indices(next_state, buf, next, coefficients, filter, k + 1, indices)
+    read_indices(next_state, buf, next, tables, filter, k + 1, indices)
 }
 
 // Both filters, into sixteen places that hold 0: the two orders, with the state and the cursor behind them.
@@ -77,33 +76,21 @@ pub fn read_tns(
     state: DecoderState,
     buf: &[u8],
     at: Cursor,
-    orders: &[u16],
-    coefficients: &[u16],
+    tables: &PassedSet,
     weighting: usize,
     first_flag: u32,
     second_flag: u32,
     indices: &mut [usize; 16],
 ) -> Result<(usize, usize, DecoderState, Cursor), Met>
-    requires { (length buf.now ≤ 65535) × (range_passes state.range ≡ true) × (part_passes 2 8 orders.now ≡ true) × (part_passes 8 17 coefficients.now ≡ true) × (weighting ≤ 1) × (indices.old ≡ replicate 16 0) }
-    ensures { tns_of result indices.new ≡ told (read_tns orders.now coefficients.now weighting first_flag second_flag state buf.now at) }
+    requires { (length buf.now ≤ 65535) × (range_passes state.range ≡ true) × (weighting ≤ 1) × (indices.old ≡ replicate 16 0) }
+    ensures { tns_of result indices.new ≡ told (read_tns tables.now.orders.now tables.now.coefficients.now weighting first_flag second_flag state buf.now at) }
 {
-    let (first, s, c) = read_filter(
-        state,
-        buf,
-        at,
-        orders,
-        coefficients,
-        weighting,
-        0,
-        first_flag,
-        indices,
-    )?;
+    let (first, s, c) = read_filter(state, buf, at, tables, weighting, 0, first_flag, indices)?;
     let (second, last_state, last) = read_filter(
         s,
         buf,
         c,
-        orders,
-        coefficients,
+        tables,
         weighting,
         1,
         second_flag,
@@ -131,23 +118,21 @@ pub fn send_tns(
     buf: &mut [u8],
     st: EncoderState,
     writing: bool,
-    orders: &[u16],
-    coefficients: &[u16],
+    tables: &PassedSet,
     weighting: usize,
     first_order: usize,
     second_order: usize,
     indices: [usize; 16],
 ) -> EncoderState
-    requires { (part_passes 2 8 orders.now ≡ true) × (part_passes 8 17 coefficients.now ≡ true) × (weighting ≤ 1) × (first_order ≤ 8) × (second_order ≤ 8) × (length indices ≡ 16) × (Ready writing st (length buf.old) (sent_tns orders.now coefficients.now weighting (Sent·tns_of first_order second_order indices))) }
-    ensures state { result ≡ sent_all writing st (sent_tns orders.now coefficients.now weighting (Sent·tns_of first_order second_order indices)) }
-    ensures lent { buf.new ≡ laid_all writing st buf.old (sent_tns orders.now coefficients.now weighting (Sent·tns_of first_order second_order indices)) }
+    requires { (weighting ≤ 1) × (first_order ≤ 8) × (second_order ≤ 8) × (length indices ≡ 16) × (Ready writing st (length buf.old) (sent_tns tables.now.orders.now tables.now.coefficients.now weighting (Sent·tns_of first_order second_order indices))) }
+    ensures state { result ≡ sent_all writing st (sent_tns tables.now.orders.now tables.now.coefficients.now weighting (Sent·tns_of first_order second_order indices)) }
+    ensures lent { buf.new ≡ laid_all writing st buf.old (sent_tns tables.now.orders.now tables.now.coefficients.now weighting (Sent·tns_of first_order second_order indices)) }
 {
     crate::send::send_tns(
         buf,
         st,
         writing,
-        orders,
-        coefficients,
+        tables,
         weighting,
         first_order,
         second_order,

@@ -1,10 +1,10 @@
 // The TNS data, written: what the writer takes, and its symbols in their order.
 ghost use Rattle.std.specs.Prelude.{◌≡◌, true, cond, ◌≤◌, ltb, leb, eqb, length, take, drop};
-ghost use Rattle.common.specs.Tables.{part_passes};
 ghost use Rattle.sending.specs.Private.{Ready, sent_all, laid_all};
 ghost use Rattle.tns_data.specs.Sent.{places_pass, filter_passes, tns_passes, sent_indices, sent_filter, sent_tns, tns_of};
 ghost use Rattle.tns_data.specs.Private.{filter_at};
 
+use common::table_set::PassedSet;
 use range_encoder::EncoderState;
 
 // An index at place k of a filter: 0 to 16 below its order, 0 from there on.
@@ -55,18 +55,26 @@ fn send_indices(
     buf: &mut [u8],
     st: EncoderState,
     writing: bool,
-    coefficients: &[u16],
+    tables: &PassedSet,
     indices: [usize; 16],
     from: usize,
     order: usize,
 ) -> EncoderState
-    requires { (part_passes 8 17 coefficients.now ≡ true) × (length indices ≡ 16) × (from ≤ 8) × (order ≤ 8) × (Ready writing st (length buf.old) (sent_indices coefficients.now 0 (take order (drop from indices)))) }
-    ensures state { result ≡ sent_all writing st (sent_indices coefficients.now 0 (take order (drop from indices))) }
-    ensures lent { buf.new ≡ laid_all writing st buf.old (sent_indices coefficients.now 0 (take order (drop from indices))) }
+    requires { (length indices ≡ 16) × (from ≤ 8) × (order ≤ 8) × (Ready writing st (length buf.old) (sent_indices tables.now.coefficients.now 0 (take order (drop from indices)))) }
+    ensures state { result ≡ sent_all writing st (sent_indices tables.now.coefficients.now 0 (take order (drop from indices))) }
+    ensures lent { buf.new ≡ laid_all writing st buf.old (sent_indices tables.now.coefficients.now 0 (take order (drop from indices))) }
 {
     let mut s = st;
     for k in 0..order {
-        s = sending::inner::symbol(buf, s, writing, coefficients, 17, k, indices[from + k]);
+        s = sending::inner::symbol(
+            buf,
+            s,
+            writing,
+            tables.coefficients,
+            17,
+            k,
+            indices[from + k],
+        );
     }
     s
 }
@@ -76,22 +84,21 @@ fn send_filter(
     buf: &mut [u8],
     st: EncoderState,
     writing: bool,
-    orders: &[u16],
-    coefficients: &[u16],
+    tables: &PassedSet,
     weighting: usize,
     indices: [usize; 16],
     from: usize,
     order: usize,
 ) -> EncoderState
-    requires { (part_passes 2 8 orders.now ≡ true) × (part_passes 8 17 coefficients.now ≡ true) × (weighting ≤ 1) × (length indices ≡ 16) × (from ≤ 8) × (order ≤ 8) × (Ready writing st (length buf.old) (sent_filter orders.now coefficients.now weighting (filter_at from order indices))) }
-    ensures state { result ≡ sent_all writing st (sent_filter orders.now coefficients.now weighting (filter_at from order indices)) }
-    ensures lent { buf.new ≡ laid_all writing st buf.old (sent_filter orders.now coefficients.now weighting (filter_at from order indices)) }
+    requires { (weighting ≤ 1) × (length indices ≡ 16) × (from ≤ 8) × (order ≤ 8) × (Ready writing st (length buf.old) (sent_filter tables.now.orders.now tables.now.coefficients.now weighting (filter_at from order indices))) }
+    ensures state { result ≡ sent_all writing st (sent_filter tables.now.orders.now tables.now.coefficients.now weighting (filter_at from order indices)) }
+    ensures lent { buf.new ≡ laid_all writing st buf.old (sent_filter tables.now.orders.now tables.now.coefficients.now weighting (filter_at from order indices)) }
 {
     if order == 0 {
         return st;
     }
-    let s = sending::inner::symbol(buf, st, writing, orders, 8, weighting, order - 1);
-    send_indices(buf, s, writing, coefficients, indices, from, order)
+    let s = sending::inner::symbol(buf, st, writing, tables.orders, 8, weighting, order - 1);
+    send_indices(buf, s, writing, tables, indices, from, order)
 }
 
 // Both filters, one behind the other.
@@ -99,37 +106,16 @@ pub(crate) fn send_tns(
     buf: &mut [u8],
     st: EncoderState,
     writing: bool,
-    orders: &[u16],
-    coefficients: &[u16],
+    tables: &PassedSet,
     weighting: usize,
     first_order: usize,
     second_order: usize,
     indices: [usize; 16],
 ) -> EncoderState
-    requires { (part_passes 2 8 orders.now ≡ true) × (part_passes 8 17 coefficients.now ≡ true) × (weighting ≤ 1) × (first_order ≤ 8) × (second_order ≤ 8) × (length indices ≡ 16) × (Ready writing st (length buf.old) (sent_tns orders.now coefficients.now weighting (tns_of first_order second_order indices))) }
-    ensures state { result ≡ sent_all writing st (sent_tns orders.now coefficients.now weighting (tns_of first_order second_order indices)) }
-    ensures lent { buf.new ≡ laid_all writing st buf.old (sent_tns orders.now coefficients.now weighting (tns_of first_order second_order indices)) }
+    requires { (weighting ≤ 1) × (first_order ≤ 8) × (second_order ≤ 8) × (length indices ≡ 16) × (Ready writing st (length buf.old) (sent_tns tables.now.orders.now tables.now.coefficients.now weighting (tns_of first_order second_order indices))) }
+    ensures state { result ≡ sent_all writing st (sent_tns tables.now.orders.now tables.now.coefficients.now weighting (tns_of first_order second_order indices)) }
+    ensures lent { buf.new ≡ laid_all writing st buf.old (sent_tns tables.now.orders.now tables.now.coefficients.now weighting (tns_of first_order second_order indices)) }
 {
-    let s = send_filter(
-        buf,
-        st,
-        writing,
-        orders,
-        coefficients,
-        weighting,
-        indices,
-        0,
-        first_order,
-    );
-    send_filter(
-        buf,
-        s,
-        writing,
-        orders,
-        coefficients,
-        weighting,
-        indices,
-        8,
-        second_order,
-    )
+    let s = send_filter(buf, st, writing, tables, weighting, indices, 0, first_order);
+    send_filter(buf, s, writing, tables, weighting, indices, 8, second_order)
 }

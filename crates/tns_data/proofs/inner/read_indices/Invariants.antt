@@ -13,4 +13,4 @@ abbrev pub invariant-loop-k : goal.invariant-loop-k
 invariant-loop-k l =
     (length l.indices ≡ 16) ×
     (range_passes l.s.range ≡ true) ×
-    (indices_laid l.indices (8 * l.filter + l.k-counter) l.order (read_indices l.coefficients l.filter l.k-counter (l.order - l.k-counter) l.s l.buf l.c) ≡ indices_laid l.initial.indices (8 * l.filter) l.order (read_indices l.coefficients l.filter 0 l.order l.initial.s l.buf l.initial.c))
+    (indices_laid l.indices (8 * l.filter + l.k-counter) l.order (read_indices l.tables.coefficients.now l.filter l.k-counter (l.order - l.k-counter) l.s l.buf l.c) ≡ indices_laid l.initial.indices (8 * l.filter) l.order (read_indices l.tables.coefficients.now l.filter 0 l.order l.initial.s l.buf l.initial.c))

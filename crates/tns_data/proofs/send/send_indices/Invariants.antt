@@ -6,4 +6,4 @@ use Rattle.tns_data.proofs.send.send_indices.Given as goal
 
 abbrev pub invariant-loop-k : goal.invariant-loop-k
 invariant-loop-k l =
-    (Left l.writing l.initial.s l.initial.buf (all_indices l.coefficients l.indices l.from l.order) l.s l.buf (indices_from l.coefficients l.indices l.from l.order l.k))
+    (Left l.writing l.initial.s l.initial.buf (all_indices l.tables.coefficients.now l.indices l.from l.order) l.s l.buf (indices_from l.tables.coefficients.now l.indices l.from l.order l.k))
