@@ -2,13 +2,14 @@
 -- bits, and compute to the definition's. Assumes nothing.
 use mathlib.Core.Path.{◌≡◌, refl, ap}
 use mathlib.Core.Bool.{true, false, not}
-use mathlib.Core.List.{List, [], ◌∷◌, ◌++◌}
+use mathlib.Core.List.{List, [], ◌∷◌}
 use Prim.Native.Nat.{ℕ, ◌^◌, ◌≤◌}
 use native.Mathlib.Omega.{arith}
 use lib.Dec.{T, le→leb}
 use lib.IntN.{pos}
-use lib.ListN.{length}
 use lib.Ieee.{Float, binary32, lt, of_int, in_float}
+use Rattle.std.specs.Prelude.{reverse, fold}
+use Rattle.std.proofs.lemmas.Grind.{reverse_onto, fold-append}
 use Rattle.spectral_quantization.specs.Single.{◌+ᶠ◌, ◌-ᶠ◌, ◌*ᶠ◌, constant}
 use Rattle.spectral_quantization.specs.Gain.{scaled, below, near_cost, far_cost, all_below, cost_at, exceeds}
 use Rattle.spectral_quantization.specs.Private.{cost_of_all, cost_with}
@@ -42,28 +43,14 @@ module _ (level energy : Float) (cost : Cost) where
 -- ---- the walk, from the last energy to the first
 
 module _ (level : Float) where
-  -- what energies cost that are walked from a cost on
-  unfoldable pub walked : List Float → Cost → Cost
-  walked [] cost = cost
-  walked (energy ∷ rest) cost = cost_with level energy (walked rest cost)
+  abbrev pub no_cost : Cost
+  no_cost = record { bits = constant 0 1; zero = true }
 
-  -- from no cost on it is what they cost
-  pub walk_start : (energies : List Float) → walked energies (record { bits = constant 0 1; zero = true }) ≡ cost_of_all level energies
-  unfolding walked cost_at all_below
-  walk_start [] = refl
-  walk_start (energy ∷ rest) = ap (cost_with level energy) (walk_start rest)
-
-  -- a turn takes the last
-  pub walk_turn : (rest : List Float) (energy : Float) (cost : Cost) → walked (rest ++ energy ∷ []) cost ≡ walked rest (cost_with level energy cost)
-  unfolding walked
-  walk_turn [] energy cost = refl
-  walk_turn (x ∷ rest) energy cost = ap (cost_with level x) (walk_turn rest energy cost)
-
-  -- at its end none is left
-  pub walk_end : (rest : List Float) (cost : Cost) → length rest ≡ 0 → cost ≡ walked rest cost
-  unfolding walked
-  walk_end [] cost h = refl
-  walk_end (x ∷ rest) cost h = absurd (omega arith)
+  -- taken from the last on, one after the other, they cost what all do
+  pub walked_back : (energies : List Float) → fold (λ cost energy. cost_with level energy cost) no_cost (reverse energies) ≡ cost_of_all level energies
+  unfolding cost_at all_below
+  walked_back [] = refl
+  walked_back (energy ∷ rest) = rw (reverse_onto rest energy [], fold-append) (ap (cost_with level energy) (walked_back rest))
 
 -- ---- the target
 

@@ -66,14 +66,12 @@ fn exceeds(energies: &[f32], level: f32, target: usize) -> bool
 fn cost_at(energies: &[f32], level: f32) -> Cost
     ensures { result ≡ cost_of_all level energies.now }
 {
-    let mut cost = Cost {
+    let none = Cost {
         bits: 0.0,
         zero: true,
     };
-    for &energy in energies.iter().rev() {
-        cost = with_energy(level, energy, cost);
-    }
-    cost
+    let from_last = energies.iter().rev().copied();
+    from_last.fold(none, |cost, energy| with_energy(level, energy, cost))
 }
 
 fn with_energy(level: f32, energy: f32, cost: Cost) -> Cost
