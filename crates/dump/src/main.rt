@@ -3,7 +3,6 @@
 
 ghost use Rattle.dump_io.specs.Streams.{IsPrefixLen};
 
-use dump_io::inner::Input;
 use std::io::{Error, ErrorKind};
 
 // A line on standard error: what failed, and why. Where that can not be written either, nobody is left to tell.
@@ -25,7 +24,7 @@ fn dump(rt: &HostRuntime, input: &[u8], n: usize)
 fn main(rt: HostRuntime) {
     let mut input = dump_io::inner::room();
     match dump_io::inner::take(&mut rt.stdin(), &mut input) {
-        Input::Failed(why) => fail(&rt, "standard input", why),
-        Input::Bytes(n) => dump(&rt, &input, n),
+        Ok(n) => dump(&rt, &input, n),
+        Err(why) => fail(&rt, "standard input", why),
     }
 }

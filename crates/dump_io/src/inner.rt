@@ -1,22 +1,16 @@
 // Input up to a buffer's length, and the dump's steps written one after the other.
-ghost use Rattle.std.specs.Prelude.{◌≡◌, ◌-◌, ◌≤◌, suc, length, take, IfOk, OnOk};
+ghost use Rattle.std.specs.Prelude.{◌≡◌, ◌≤◌, suc, length, take, IfOk, OnOk};
+ghost use Rattle.std.specs.Option.{IfSome};
 ghost use Rattle.std.specs.Io.KnownBytes.{Appends};
 ghost use Rattle.common.specs.Tables.{Tables};
 ghost use Rattle.dumping.specs.Dump.{started, dump_text};
 ghost use Rattle.dumping.specs.Steps.{step_at, steps_text};
 ghost use Rattle.dump_io.specs.Streams.{Within, IsFirst};
-ghost use Rattle.dump_io.specs.Private.{Few, IsNext, Standing, Further, Leads, held};
+ghost use Rattle.dump_io.specs.Private.{Standing, Further, Leads, held};
 
 use dumping::{Onward, State};
 use std::io;
 use std::io::{Error, ErrorKind, Read, Write};
-
-// How many bytes there are at the buffer's front; or why the input could not be read.
-#[derive(Clone, Copy)]
-pub enum Input {
-    Bytes(usize),
-    Failed(Error),
-}
 
 // Room for the bytes that a dump can depend on: whether there is one behind the first 65,536, and no more.
 pub fn room() -> [u8; 65537]
@@ -25,45 +19,21 @@ pub fn room() -> [u8; 65537]
     [0; 65537]
 }
 
-// One read behind the bytes that are there: none at the input's end.
-fn more<R: Read>(from: &mut R, buf: &mut [u8], done: usize) -> Input
-    requires { done ≤ length buf.old }
-    ensures few { Few result (length buf.old - done) }
-    ensures front { take done buf.new ≡ take done buf.old }
-    ensures next { IsNext (R.remaining from.old) (R.remaining from.new) done result buf.new }
-{
-    match from.read(&mut buf[done..]) {
-        Ok(n) => Input::Bytes(n),
-        Err(why) => Input::Failed(why),
-    }
-}
-
-// Reads to the input's end, or until the buffer is full.
-pub fn take<R: Read>(from: &mut R, buf: &mut [u8]) -> Input
+// Reads to the input's end, or until the buffer is full: how many bytes there are at the buffer's front.
+pub fn take<R: Read>(from: &mut R, buf: &mut [u8]) -> io::Result<usize>
     ensures within { Within result buf.new }
     ensures first { IsFirst (R.remaining from.old) result buf.new }
 {
     let mut done = 0;
     while done < buf.len() {
-        match more(from, buf, done) {
-            Input::Failed(why) => return Input::Failed(why),
-            Input::Bytes(n) => {
-                if n == 0 {
-                    return Input::Bytes(done);
-                }
-                done += n;
-            }
+        // No byte is read at the input's end.
+        let n = from.read(&mut buf[done..])?;
+        if n == 0 {
+            return Ok(done);
         }
+        done += n;
     }
-    Input::Bytes(done)
-}
-
-// Where the dump stands: the next offset, what is held there, and whether it goes on. All was written so far.
-#[derive(Clone, Copy)]
-struct Place {
-    offset: usize,
-    state: State,
-    going: bool,
+    Ok(done)
 }
 
 // A text that has no room in its buffer is not written.
@@ -76,32 +46,32 @@ fn put<W: Write>(to: &mut W, text: &[u8], n: usize) -> io::Result<()>
     to.write_all(&text[..n])
 }
 
+// One step, written: the next offset and what is held there, or none where the dump ends.
 fn turn<W: Write>(
     to: &mut W,
     input: &[u8],
-    place: Place,
+    offset: usize,
+    state: State,
     lookup: &mut [u8],
     frequencies: &mut [u16],
     bits: &mut [u16],
     orders: &mut [u16],
     coefficients: &mut [u16],
     text: &mut [u8],
-) -> io::Result<Place>
-    requires { Standing place }
-    ensures further { IfOk result (λ next. Further place next (length input.now)) }
+) -> io::Result<Option<(usize, State)>>
+    requires { Standing (offset, state) }
+    ensures further { IfOk result (λ next. IfSome next (λ q. Further (offset, state) q (length input.now))) }
     ensures written { let before : Tables = record { lookup = lookup.old; frequencies = frequencies.old; bits = bits.old; orders = orders.old; coefficients = coefficients.old } in
-        OnOk result (Appends (W.contents to.old) (W.contents to.new) (step_at (held place before) input.now place.offset).text) }
+        OnOk result (Appends (W.contents to.old) (W.contents to.new) (step_at (held (offset, state) before) input.now offset).text) }
     ensures leads { let before : Tables = record { lookup = lookup.old; frequencies = frequencies.old; bits = bits.old; orders = orders.old; coefficients = coefficients.old } in
         let after : Tables = record { lookup = lookup.new; frequencies = frequencies.new; bits = bits.new; orders = orders.new; coefficients = coefficients.new } in
-        let s = step_at (held place before) input.now place.offset in
+        let s = step_at (held (offset, state) before) input.now offset in
         IfOk result (λ next. Leads s.next s.held next after) }
 {
-    let offset = place.offset;
-    let before = place.state;
     let step = dumping::inner::step(
         input,
         offset,
-        before,
+        state,
         lookup,
         frequencies,
         bits,
@@ -110,24 +80,9 @@ fn turn<W: Write>(
         text,
     );
     put(to, text, step.text)?;
-    let next = step.next;
-    let state = step.state;
-    match next {
-        Onward::At(offset) => Ok(Place {
-            offset,
-            state,
-            going: true,
-        }),
-        Onward::End => Ok(Place {
-            offset,
-            state: before,
-            going: false,
-        }),
-        Onward::Stop => Ok(Place {
-            offset,
-            state: before,
-            going: false,
-        }),
+    match step.next {
+        Onward::At(next) => Ok(Some((next, step.state))),
+        Onward::End | Onward::Stop => Ok(None),
     }
 }
 
@@ -144,16 +99,13 @@ fn run<W: Write>(
     ensures { let before : Tables = record { lookup = lookup.old; frequencies = frequencies.old; bits = bits.old; orders = orders.old; coefficients = coefficients.old } in
         OnOk result (Appends (W.contents to.old) (W.contents to.new) (steps_text (suc (length input.now)) (record { state = started; tables = before }) input.now 0)) }
 {
-    let mut place = Place {
-        offset: 0,
-        state: State::start(),
-        going: true,
-    };
-    while place.going {
-        place = turn(
+    let mut next = Some((0, State::start()));
+    while let Some((offset, state)) = next {
+        next = turn(
             to,
             input,
-            place,
+            offset,
+            state,
             lookup,
             frequencies,
             bits,

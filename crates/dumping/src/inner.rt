@@ -1,33 +1,15 @@
 // One step of a dump, for the programs of this repository. The tables and the text are laid over lent slices.
-ghost use Rattle.std.specs.Prelude.{◌≡◌, cond, ◌+◌, ◌≤◌, ◌<◌, eqb, length};
+ghost use Rattle.std.specs.Prelude.{◌≡◌, cond, ◌≤◌, ◌<◌, eqb, length};
 ghost use Rattle.std.proofs.lemmas.List.Edits.{sets};
 ghost use Rattle.recording.specs.Contents.{words_of, configuration_of};
-ghost use Rattle.recording.specs.Tagged.{tag_configuration, tag_frame, tag_lookup, tag_frequencies, tag_bits, tag_orders, tag_coefficients};
+ghost use Rattle.recording.specs.Tagged.{tag_configuration, tag_lookup, tag_frequencies, tag_bits, tag_orders, tag_coefficients};
 ghost use Rattle.dumping.specs.Dump.{laid_if, state_with, printed as Dump·printed};
 ghost use Rattle.dumping.specs.Steps.{step_on, step_at};
 
 use crate::{DUMP_MOST, Onward, State, Stepped};
 use common::configuration::Configuration;
-use recording::reader::FieldAt;
+use recording::reader::Malformed;
 use recording::{contents, reader, tags};
-
-fn bytes_if(there: bool, content: &[u8], out: &mut [u8])
-    ensures { out.new ≡ laid_if there out.old content.now }
-{
-    if there {
-        contents::take_bytes(content, out);
-        return;
-    }
-}
-
-fn words_if(there: bool, content: &[u8], out: &mut [u16])
-    ensures { out.new ≡ laid_if there out.old (words_of content.now) }
-{
-    if there {
-        contents::take_words(content, out);
-        return;
-    }
-}
 
 // The table of that tag, if there is one, taken from the field's content.
 fn take(
@@ -45,30 +27,24 @@ fn take(
     ensures fourth { orders.new ≡ laid_if (eqb tag tag_orders) orders.old (words_of content.now) }
     ensures fifth { coefficients.new ≡ laid_if (eqb tag tag_coefficients) coefficients.old (words_of content.now) }
 {
-    bytes_if(tag == tags::LOOKUP, content, lookup);
-    words_if(tag == tags::FREQUENCIES, content, frequencies);
-    words_if(tag == tags::BITS, content, bits);
-    words_if(tag == tags::ORDERS, content, orders);
-    words_if(tag == tags::COEFFICIENTS, content, coefficients);
+    match tag {
+        tags::LOOKUP => contents::take_bytes(content, lookup),
+        tags::FREQUENCIES => contents::take_words(content, frequencies),
+        tags::BITS => contents::take_words(content, bits),
+        tags::ORDERS => contents::take_words(content, orders),
+        tags::COEFFICIENTS => contents::take_words(content, coefficients),
+        _ => (),
+    }
 }
 
 fn configured(tag: u8, content: &[u8], before: Configuration) -> Configuration
     ensures { result ≡ cond (eqb tag tag_configuration) (configuration_of content.now) before }
 {
     if tag == tags::CONFIGURATION {
-        return contents::configuration_of(content);
+        contents::configuration_of(content)
+    } else {
+        before
     }
-    before
-}
-
-fn counted(tag: u8, frames: usize) -> usize
-    requires { frames < 0xFFFFFFFFFFFFFFFF }
-    ensures { result ≡ frames + cond (eqb tag tag_frame) 1 0 }
-{
-    if tag == tags::FRAME {
-        return frames + 1;
-    }
-    frames
 }
 
 // The state behind a field.
@@ -76,12 +52,10 @@ fn state_with(tag: u8, content: &[u8], state: State) -> State
     requires { state.frames < 0xFFFFFFFFFFFFFFFF }
     ensures { result ≡ state_with state tag content.now }
 {
-    let before = state.before;
-    let configuration = state.configuration;
     State {
-        before: before.after(tag),
-        configuration: configured(tag, content, configuration),
-        frames: counted(tag, state.frames),
+        before: state.before.after(tag),
+        configuration: configured(tag, content, state.configuration),
+        frames: state.frames + usize::from(tag == tags::FRAME),
     }
 }
 
@@ -102,11 +76,9 @@ fn print(
     ensures lent { out.new ≡ sets out.old 0 (Dump·printed (record { state = state; tables = record { lookup = lookup.entry.now; frequencies = frequencies.now; bits = bits.now; orders = orders.now; coefficients = coefficients.now } }) tag content.now) }
 {
     if tag == tags::FRAME {
-        let number = state.frames + 1;
-        let configuration = state.configuration;
-        return frame_text::lay(
-            number,
-            configuration,
+        frame_text::lay(
+            state.frames + 1,
+            state.configuration,
             lookup,
             frequencies,
             bits,
@@ -114,9 +86,10 @@ fn print(
             coefficients,
             content,
             out,
-        );
+        )
+    } else {
+        0
     }
-    0
 }
 
 // A field that was found: it is printed, and taken.
@@ -194,12 +167,11 @@ pub fn step(
     ensures lent { out.new ≡ sets out.old 0 (step_at (record { state = state; tables = record { lookup = lookup.entry.now; frequencies = frequencies.old; bits = bits.old; orders = orders.old; coefficients = coefficients.old } }) input.now offset).text }
 {
     match reader::field_at(input, offset, DUMP_MOST, state.before) {
-        FieldAt::Found(x) => {
-            let content = x.content;
+        Ok(Some(x)) => {
             let end = x.content + x.size;
             on_field(
                 x.tag,
-                &input[content..end],
+                &input[x.content..end],
                 end,
                 state,
                 lookup,
@@ -210,7 +182,7 @@ pub fn step(
                 out,
             )
         }
-        FieldAt::End => {
+        Ok(None) => {
             let text = frame_text::lay_end(state.frames, out);
             Stepped {
                 text,
@@ -218,7 +190,7 @@ pub fn step(
                 state,
             }
         }
-        FieldAt::Malformed(at) => {
+        Err(Malformed(at)) => {
             let text = frame_text::lay_stop(at, out);
             Stepped {
                 text,

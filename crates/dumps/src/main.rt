@@ -3,7 +3,6 @@
 
 ghost use Rattle.dump_io.specs.Streams.{IsPrefixLen};
 
-use dump_io::inner::Input;
 use std::env::FillError;
 use std::fs;
 use std::io::{Error, ErrorKind};
@@ -29,16 +28,16 @@ fn dump(rt: &HostRuntime, input: &[u8], n: usize)
 
 fn one(rt: &HostRuntime, name: &str, input: &mut [u8]) {
     match fs::open(rt, name) {
-        Err(why) => fail(rt, name, why),
         Ok(mut file) => {
             let got = dump_io::inner::take(&mut file, input);
             drop(file);
             title(rt, name);
             match got {
-                Input::Failed(why) => fail(rt, name, why),
-                Input::Bytes(n) => dump(rt, input, n),
+                Ok(n) => dump(rt, input, n),
+                Err(why) => fail(rt, name, why),
             }
         }
+        Err(why) => fail(rt, name, why),
     }
 }
 

@@ -3,7 +3,8 @@
 use Prim.Native.Nat.{ℕ, ◌+◌, ◌≤◌, ◌<◌}
 use mathlib.Core.Path.{◌≡◌, refl, sym, ap, ◌∙◌}
 use mathlib.Core.Bool.{true, false, true≢false}
-use mathlib.Core.List.{List, [], ◌++◌}
+use mathlib.Core.List.{List, [], ◌++◌, map}
+use Rattle.std.proofs.lemmas.List.{length-map, get_or-map, map-id}
 use native.Mathlib.Omega.{arith}
 use native.Mathlib.Numerals.{add-one}
 use borrow.Author.Tests.{ltb-true, eq-eqb, ne_eqb}
@@ -26,6 +27,18 @@ spaced-turn l i n h e = rw (add-one, drop-cons l i 0 h, e) refl
 pub spaced-end : (l : List ℕ) (i : ℕ) → length l ≤ i → spaced (drop i l) ≡ []
 unfolding spaced
 spaced-end l i h = rw (drop_of_length-le l h) refl
+
+-- the same of figures, by the numbers that they are
+module _ {X : Type 0} (value : X → ℕ) (l : List X) (i : ℕ) where
+  pub figures-turn : (x : X) → i < length l → x ≡ get_or l i x → spaced (drop i (map value l)) ≡ named " " (value x) ++ spaced (drop (i + 1) (map value l))
+  figures-turn x h e = spaced-turn (map value l) i (value x) (omega (arith, h, length-map l value)) (ap value e ∙ sym (get_or-map value l i x 0 h))
+
+  pub figures-end : length l ≤ i → spaced (drop i (map value l)) ≡ []
+  figures-end h = spaced-end (map value l) i (omega (arith, h, length-map l value))
+
+-- figures that are numbers already
+pub laid-spaced : {b c : List ℕ} {at r : ℕ} (l : List ℕ) → Laid b at (spaced (map (λ (n : ℕ). n) l)) c r → Laid b at (spaced l) c r
+laid-spaced l laid = rw (map-id l) at laid
 
 -- a number below 0 has a minus sign before its magnitude, any other has none; w is what the code holds of it
 module _ {b c : List ℕ} {at r : ℕ} (z : ℤ) {w : ℤ} (n : ℕ) (same : w ≡ z) (size : n ≡ nat_abs w) where

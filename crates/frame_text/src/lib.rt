@@ -40,23 +40,18 @@ pub fn lay(
         frame,
         &mut values,
     );
-    let outcome = answer.outcome;
-    match outcome {
+    match answer.outcome {
         Outcome::Refused(e) => refusals::line(out, number, e),
-        Outcome::Read(n) => {
-            let indices = answer.indices;
-            let residual = answer.residual;
-            accepted::nine(
-                out,
-                number,
-                configuration.reading,
-                frame.len(),
-                n,
-                &indices,
-                &residual,
-                &values,
-            )
-        }
+        Outcome::Read(n) => accepted::nine(
+            out,
+            number,
+            configuration.reading,
+            frame.len(),
+            n,
+            &answer.indices,
+            &answer.residual,
+            &values,
+        ),
     }
 }
 

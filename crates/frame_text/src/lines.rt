@@ -25,11 +25,11 @@ pub(crate) fn side(out: &mut [u8], at: usize, side: SideInfo) -> usize
     ensures text { Laid out.old at (side_line side) out.new result }
     ensures most { result ≤ at + 300 }
 {
-    let a = put::named_u32(out, at, b"bandwidth ", side.bandwidth);
-    let b = put::named_u32(out, a, b" lastnz ", side.lastnz);
-    let c = put::named_u32(out, b, b" lsb ", side.lsb);
-    let d = put::named_u32(out, c, b" gain ", side.gain);
-    let e = put::named_u32(out, d, b" noise ", side.noise);
+    let a = put::named(out, at, b"bandwidth ", side.bandwidth);
+    let b = put::named(out, a, b" lastnz ", side.lastnz);
+    let c = put::named(out, b, b" lsb ", side.lsb);
+    let d = put::named(out, c, b" gain ", side.gain);
+    let e = put::named(out, d, b" noise ", side.noise);
     put::word(out, e, b"\n")
 }
 
@@ -38,16 +38,10 @@ pub(crate) fn pitch(out: &mut [u8], at: usize, side: SideInfo) -> usize
     ensures text { Laid out.old at (pitch_line side) out.new result }
     ensures most { result ≤ at + 300 }
 {
-    let a = put::named_u32(out, at, b"pitch ", side.pitch);
-    let b = put::named_u32(out, a, b" active ", side.active);
-    let c = put::named_u32(out, b, b" index ", side.index);
+    let a = put::named(out, at, b"pitch ", side.pitch);
+    let b = put::named(out, a, b" active ", side.active);
+    let c = put::named(out, b, b" index ", side.index);
     put::word(out, c, b"\n")
-}
-
-fn shape(msb: u32, submode_lsb: u32) -> usize
-    ensures { result ≡ 2 * msb + submode_lsb }
-{
-    2 * (msb as usize) + submode_lsb as usize
 }
 
 fn sns_indices(out: &mut [u8], at: usize, sns: Sns) -> usize
@@ -55,12 +49,12 @@ fn sns_indices(out: &mut [u8], at: usize, sns: Sns) -> usize
     ensures text { Laid out.old at (named "sns " sns.lf ++ named " " sns.hf ++ named " a " sns.ls_inda ++ named " " sns.idx_a ++ named " b " sns.ls_indb ++ named " " sns.idx_b) out.new result }
     ensures most { result ≤ at + 192 }
 {
-    let a = put::named_u32(out, at, b"sns ", sns.lf);
-    let b = put::named_u32(out, a, b" ", sns.hf);
-    let c = put::named_u32(out, b, b" a ", sns.ls_inda);
-    let d = put::named_u32(out, c, b" ", sns.idx_a);
-    let e = put::named_u32(out, d, b" b ", sns.ls_indb);
-    put::named_u32(out, e, b" ", sns.idx_b)
+    let a = put::named(out, at, b"sns ", sns.lf);
+    let b = put::named(out, a, b" ", sns.hf);
+    let c = put::named(out, b, b" a ", sns.ls_inda);
+    let d = put::named(out, c, b" ", sns.idx_a);
+    let e = put::named(out, d, b" b ", sns.ls_indb);
+    put::named(out, e, b" ", sns.idx_b)
 }
 
 pub(crate) fn sns(out: &mut [u8], at: usize, sns: Sns) -> usize
@@ -68,9 +62,9 @@ pub(crate) fn sns(out: &mut [u8], at: usize, sns: Sns) -> usize
     ensures text { Laid out.old at (sns_line sns) out.new result }
     ensures most { result ≤ at + 300 }
 {
-    let shape = shape(sns.msb, sns.submode_lsb);
+    let shape = 2 * (sns.msb as usize) + sns.submode_lsb as usize;
     let a = sns_indices(out, at, sns);
-    let b = put::named_u32(out, a, b" gain ", sns.gain);
+    let b = put::named(out, a, b" gain ", sns.gain);
     let c = put::named(out, b, b" shape ", shape);
     put::word(out, c, b"\n")
 }
@@ -90,8 +84,7 @@ pub(crate) fn tns(
     let a = put::named(out, at, b"tns ", first);
     let b = put::spaced(out, a, &indices[..first]);
     let c = put::named(out, b, b" ", second);
-    let end = 8 + second;
-    let d = put::spaced(out, c, &indices[8..end]);
+    let d = put::spaced(out, c, &indices[8..8 + second]);
     put::word(out, d, b"\n")
 }
 
@@ -114,10 +107,8 @@ fn each(out: &mut [u8], at: usize, lines: &[i32]) -> usize
     ensures most { result ≤ at + 76 * length lines.now }
 {
     let mut next = at;
-    let mut k = 0;
-    while k < lines.len() {
-        next = line(out, next, k, lines[k]);
-        k += 1;
+    for (k, &v) in lines.iter().enumerate() {
+        next = line(out, next, k, v);
     }
     next
 }
@@ -139,14 +130,8 @@ pub(crate) fn residual(out: &mut [u8], at: usize, count: usize, bits: &[u8]) -> 
     ensures most { result ≤ at + 12900 }
 {
     let a = put::named(out, at, b"residual ", count);
-    let b = put::spaced_u8(out, a, &bits[..count]);
+    let b = put::spaced(out, a, &bits[..count]);
     put::word(out, b, b"\n")
-}
-
-fn one_if(flag: bool) -> usize
-    ensures { result ≡ cond flag 1 0 }
-{
-    if flag { 1 } else { 0 }
 }
 
 pub(crate) fn seed(out: &mut [u8], at: usize, seed: u32, zero: bool) -> usize
@@ -154,9 +139,8 @@ pub(crate) fn seed(out: &mut [u8], at: usize, seed: u32, zero: bool) -> usize
     ensures text { Laid out.old at (seed_line seed (cond zero 1 0)) out.new result }
     ensures most { result ≤ at + 300 }
 {
-    let flag = one_if(zero);
-    let a = put::named_u32(out, at, b"seed ", seed);
-    let b = put::named(out, a, b" zero ", flag);
+    let a = put::named(out, at, b"seed ", seed);
+    let b = put::named(out, a, b" zero ", usize::from(zero));
     put::word(out, b, b"\n")
 }
 

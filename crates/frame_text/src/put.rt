@@ -1,17 +1,48 @@
 // Characters, words and numbers, each laid from a place on: answers the place behind. What is past the buffer's end is laid nowhere.
-ghost use Rattle.std.specs.Prelude.{[], ◌∷◌, ◌++◌, ◌+◌, ◌*◌, ◌≤◌, length, nat_abs};
+ghost use Rattle.std.specs.Prelude.{◌≡◌, ℕ, [], ◌∷◌, ◌++◌, ◌+◌, ◌*◌, ◌≤◌, length, map, nat_abs};
 ghost use Rattle.frame_text.specs.Text.{last_digit, decimal, spaced as Text·spaced, signed as Text·signed};
 ghost use Rattle.frame_text.specs.Private.{Laid};
+
+// A number that is printed, whatever its width.
+pub(crate) trait Figure: Copy {
+    ghost value: { Self → ℕ };
+
+    fn value(self) -> usize
+        ensures { result ≡ value self };
+}
+
+impl Figure for usize {
+    ghost value = { λ n. n };
+
+    fn value(self) -> usize {
+        self
+    }
+}
+
+impl Figure for u32 {
+    ghost value = { λ n. n };
+
+    fn value(self) -> usize {
+        self as usize
+    }
+}
+
+impl Figure for u8 {
+    ghost value = { λ n. n };
+
+    fn value(self) -> usize {
+        usize::from(self)
+    }
+}
 
 fn byte(out: &mut [u8], at: usize, b: u8) -> usize
     requires { at ≤ 100000 }
     ensures text { Laid out.old at (b ∷ []) out.new result }
     ensures most { result ≤ at + 1 }
 {
-    if out.len() <= at {
-        return at + 1;
+    if at < out.len() {
+        out[at] = b;
     }
-    out[at] = b;
     at + 1
 }
 
@@ -21,10 +52,8 @@ pub(crate) fn word(out: &mut [u8], at: usize, letters: &[u8]) -> usize
     ensures most { result ≤ at + 12 }
 {
     let mut next = at;
-    let mut i = 0;
-    while i < letters.len() {
-        next = byte(out, next, letters[i]);
-        i += 1;
+    for &letter in letters {
+        next = byte(out, next, letter);
     }
     next
 }
@@ -50,21 +79,13 @@ pub(crate) fn number(out: &mut [u8], at: usize, n: usize) -> usize
     last_digit(out, next, n)
 }
 
-pub(crate) fn named(out: &mut [u8], at: usize, name: &[u8], n: usize) -> usize
+pub(crate) fn named<N: Figure>(out: &mut [u8], at: usize, name: &[u8], n: N) -> usize
     requires { (at ≤ 90000) × (length name.now ≤ 12) }
-    ensures text { Laid out.old at (name.now ++ decimal n) out.new result }
+    ensures text { Laid out.old at (name.now ++ decimal (N.value n)) out.new result }
     ensures most { result ≤ at + 32 }
 {
     let next = word(out, at, name);
-    number(out, next, n)
-}
-
-pub(crate) fn named_u32(out: &mut [u8], at: usize, name: &[u8], n: u32) -> usize
-    requires { (at ≤ 90000) × (length name.now ≤ 12) }
-    ensures text { Laid out.old at (name.now ++ decimal n) out.new result }
-    ensures most { result ≤ at + 32 }
-{
-    named(out, at, name, n as usize)
+    number(out, next, n.value())
 }
 
 pub(crate) fn signed(out: &mut [u8], at: usize, v: i32) -> usize
@@ -74,36 +95,20 @@ pub(crate) fn signed(out: &mut [u8], at: usize, v: i32) -> usize
 {
     let size = residual_data::inner::magnitude(v);
     if v < 0 {
-        return named_u32(out, at, b"-", size);
+        return named(out, at, b"-", size);
     }
-    named_u32(out, at, b"", size)
+    named(out, at, b"", size)
 }
 
 // Numbers, each behind a space.
-pub(crate) fn spaced(out: &mut [u8], at: usize, numbers: &[usize]) -> usize
+pub(crate) fn spaced<N: Figure>(out: &mut [u8], at: usize, numbers: &[N]) -> usize
     requires { (at ≤ 40000) × (length numbers.now ≤ 400) }
-    ensures text { Laid out.old at (Text·spaced numbers.now) out.new result }
+    ensures text { Laid out.old at (Text·spaced (map N.value numbers.now)) out.new result }
     ensures most { result ≤ at + 32 * length numbers.now }
 {
     let mut next = at;
-    let mut i = 0;
-    while i < numbers.len() {
-        next = named(out, next, b" ", numbers[i]);
-        i += 1;
-    }
-    next
-}
-
-pub(crate) fn spaced_u8(out: &mut [u8], at: usize, numbers: &[u8]) -> usize
-    requires { (at ≤ 40000) × (length numbers.now ≤ 400) }
-    ensures text { Laid out.old at (Text·spaced numbers.now) out.new result }
-    ensures most { result ≤ at + 32 * length numbers.now }
-{
-    let mut next = at;
-    let mut i = 0;
-    while i < numbers.len() {
-        next = named_u32(out, next, b" ", common::inner::wide(numbers[i]));
-        i += 1;
+    for &n in numbers {
+        next = named(out, next, b" ", n);
     }
     next
 }

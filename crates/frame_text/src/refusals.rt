@@ -1,5 +1,5 @@
 // The line of a refused frame.
-ghost use Rattle.std.specs.Prelude.{◌≡◌, [], ◌∷◌, ◌++◌, ◌+◌, ◌≤◌, length};
+ghost use Rattle.std.specs.Prelude.{[], ◌∷◌, ◌++◌, ◌+◌, ◌≤◌, length, map};
 ghost use Rattle.common.specs.Reply.{reply};
 ghost use Rattle.coding.specs.Coding.{refusal_of, met_of};
 ghost use Rattle.frame_reader.specs.Returned.{reply_of};
@@ -7,19 +7,14 @@ ghost use Rattle.frame_text.specs.Text.{decimal, named, spaced, reply_text, refu
 ghost use Rattle.frame_text.specs.Private.{Laid, numbers_text};
 
 use crate::put;
+use crate::put::Figure;
 use coding::{Met, Refusal};
 use frame_reader::FrameError;
 
-fn wide(n: u32) -> usize
-    ensures { result ≡ n }
-{
-    n as usize
-}
-
 // A refusal's number, and its values behind it.
-fn numbers(out: &mut [u8], at: usize, number: usize, values: &[usize]) -> usize
+fn numbers<N: Figure>(out: &mut [u8], at: usize, number: usize, values: &[N]) -> usize
     requires { (at ≤ 1000) × (length values.now ≤ 2) }
-    ensures text { Laid out.old at (named " refused " number ++ spaced values.now) out.new result }
+    ensures text { Laid out.old at (named " refused " number ++ spaced (map N.value values.now)) out.new result }
     ensures most { result ≤ at + 96 }
 {
     let next = put::named(out, at, b" refused ", number);
@@ -35,20 +30,12 @@ fn bare(out: &mut [u8], at: usize, number: usize) -> usize
     put::named(out, at, b" refused ", number)
 }
 
-fn valued(out: &mut [u8], at: usize, number: usize, value: usize) -> usize
+fn valued<N: Figure>(out: &mut [u8], at: usize, number: usize, value: N) -> usize
     requires { at ≤ 1000 }
-    ensures text { Laid out.old at (reply_text (reply number (value ∷ []))) out.new result }
+    ensures text { Laid out.old at (reply_text (reply number (N.value value ∷ []))) out.new result }
     ensures most { result ≤ at + 160 }
 {
-    numbers(out, at, number, &[value])
-}
-
-fn valued_u32(out: &mut [u8], at: usize, number: usize, value: u32) -> usize
-    requires { at ≤ 1000 }
-    ensures text { Laid out.old at (reply_text (reply number (value ∷ []))) out.new result }
-    ensures most { result ≤ at + 160 }
-{
-    valued(out, at, number, value as usize)
+    numbers(out, at, number, &[value.value()])
 }
 
 fn refusal(out: &mut [u8], at: usize, e: Refusal) -> usize
@@ -59,11 +46,7 @@ fn refusal(out: &mut [u8], at: usize, e: Refusal) -> usize
     match e {
         Refusal::NoTailRoom(width, place) => numbers(out, at, 9, &[width, place]),
         Refusal::PastEnd(head) => numbers(out, at, 10, &[head]),
-        Refusal::LowBeyondLimit(low, limit) => {
-            let l = wide(low);
-            let m = wide(limit);
-            numbers(out, at, 11, &[l, m])
-        }
+        Refusal::LowBeyondLimit(low, limit) => numbers(out, at, 11, &[low, limit]),
     }
 }
 
@@ -128,13 +111,12 @@ fn error(out: &mut [u8], at: usize, e: FrameError) -> usize
         FrameError::WrongLength(len) => valued(out, at, 2, len),
         FrameError::TablesFail => bare(out, at, 3),
         FrameError::WrongCount(count) => valued(out, at, 4, count),
-        FrameError::BandwidthIdxOutOfRange(bandwidth) => valued_u32(out, at, 5, bandwidth),
+        FrameError::BandwidthIdxOutOfRange(bandwidth) => valued(out, at, 5, bandwidth),
         FrameError::LastNonZeroTupleGreaterThanYLen(lastnz, ne) => {
-            let n = wide(lastnz);
-            numbers(out, at, 6, &[n, ne])
+            numbers(out, at, 6, &[lastnz as usize, ne])
         }
-        FrameError::PlcTriggerSns1OutOfRange(j) => valued_u32(out, at, 7, j),
-        FrameError::PlcTriggerSns2OutOfRange(j) => valued_u32(out, at, 8, j),
+        FrameError::PlcTriggerSns1OutOfRange(j) => valued(out, at, 7, j),
+        FrameError::PlcTriggerSns2OutOfRange(j) => valued(out, at, 8, j),
         FrameError::Step(m) => met(out, at, m),
         FrameError::FourteenEscapes(pair) => valued(out, at, 19, pair),
         FrameError::NegativeResidualNumBits => bare(out, at, 12),

@@ -1,20 +1,24 @@
 -- Frames one behind the other: one turn of the loop that reads them, its end, and that where each is refused nothing comes of them.
 -- Assumes nothing.
-use Prim.Native.Nat.{ℕ, zero, suc, ◌+◌, ◌-◌, ◌*◌, ◌/◌, ◌≤◌, ◌<◌}
+use Prim.Native.Nat.{ℕ, zero, suc, ◌+◌, ◌*◌, ◌/◌, ◌≤◌, ◌<◌}
 use mathlib.Core.Path.{◌≡◌, refl, sym, ap, ◌∙◌}
 use mathlib.Core.Bool.{true, false}
-use mathlib.Core.List.{List}
+use mathlib.Core.List.{List, ◌++◌}
 use native.Mathlib.Omega.{arith}
-use native.Mathlib.Nat.{zero-add, suc-mul, div-add-mod'}
+use native.Mathlib.Nat.{zero-add, suc-mul, div-add-mod', div-eq_of_lt}
+use native.Mathlib.Numerals.{add-one}
+use Rattle.std.proofs.Math.Nat.{add-div_left}
+use Rattle.std.proofs.Common.{length-append}
 use lib.ListN.{length, take, drop, length-drop}
-use lib.Seq.{length-take-le, drop-drop}
+use lib.Seq.{length-take-le, take-append_seam, drop-append_seam}
 use lib.Dec.{ltb}
 use lib.IntN.{ℤ}
 use Rattle.common.specs.Reply.{Reply, Answer, accepted, refused, tables_fail, wrong_count}
-use Rattle.common.specs.Configuration.{frame_lines}
+use Rattle.common.specs.Configuration.{frame_lines, frame_lines_of}
 use Rattle.common.specs.Tables.{Tables, tables_pass}
 use Rattle.common.specs.declared.configuration.Configuration.{Configuration}
-use Rattle.common.proofs.Rows.{next_row}
+use Rattle.common.specs.declared.configuration.FrameLines.{FrameLines}
+use Rattle.common.specs.declared.configuration.FrameLines.TheVariants.{Encoded, OutsideLimits, WrongLength}
 use Rattle.frame_reader.specs.Frame.{Frame, read_frame}
 use Rattle.frame_reader.specs.Returned.{lines_behind, told}
 use Rattle.frame_reader.proofs.Whole.{lines-refused, tables-refused, count-refused}
@@ -24,37 +28,44 @@ pub read_told : (reading : ℕ) (a : Answer Frame) → one_if_read (told reading
 read_told reading (accepted fr) = refl
 read_told reading (refused r) = refl
 
--- the part that the code lends has a frame's length
-pub part_length : (at bytes : ℕ) (f : List ℕ) → at + bytes ≤ length f → length (take (at + bytes - at) (drop at f)) ≡ bytes
-part_length at bytes f h =
-    rw (next_row at bytes f) (length-take-le bytes (drop at f) (omega (arith, length-drop at f)))
-
 module _ (read : List ℕ → Answer Frame) (bytes : ℕ) where
-  accepted-turn : (left : ℕ) (f : List ℕ) → 0 < left → accepted_of read left bytes f ≡ one_if_read (read (take bytes f)) + accepted_of read (left - 1) bytes (drop bytes f)
+  -- a part of a frame's length is one of those that fit
+  pub one_more : (x rest : List ℕ) → 0 < bytes → length x ≡ bytes → length (x ++ rest) / bytes ≡ suc (length rest / bytes)
+  one_more x rest some l = rw (length-append, l, add-div_left (length rest) some, add-one) refl
+
+  -- the first of them, and those behind it
+  module _ (x rest : List ℕ) (some : 0 < bytes) (l : length x ≡ bytes) where
+    first : take bytes (x ++ rest) ≡ x
+    first = rw (← l) (take-append_seam x rest)
+
+    others : drop bytes (x ++ rest) ≡ rest
+    others = rw (← l) (drop-append_seam x rest)
+
+    pub accepted-turn : accepted_of read (length (x ++ rest) / bytes) bytes (x ++ rest) ≡ one_if_read (read x) + accepted_of read (length rest / bytes) bytes rest
+    unfolding accepted_of
+    accepted-turn =
+        rw (one_more x rest some l)
+        (ap (λ (f : List ℕ). one_if_read (read f) + accepted_of read (length rest / bytes) bytes (drop bytes (x ++ rest))) first
+        ∙ ap (λ (f : List ℕ). one_if_read (read x) + accepted_of read (length rest / bytes) bytes f) others)
+
+    pub lines-turn : (before : List ℤ) → lines_after read (length (x ++ rest) / bytes) bytes (x ++ rest) before ≡ lines_after read (length rest / bytes) bytes rest (lines_behind (read x) before)
+    unfolding lines_after
+    lines-turn before =
+        rw (one_more x rest some l)
+        (ap (λ (f : List ℕ). lines_after read (length rest / bytes) bytes (drop bytes (x ++ rest)) (lines_behind (read f) before)) first
+        ∙ ap (λ (f : List ℕ). lines_after read (length rest / bytes) bytes f (lines_behind (read x) before)) others)
+
+  -- no part of a frame's length is left
+  none_left : (f : List ℕ) → length f < bytes → length f / bytes ≡ 0
+  none_left f h = div-eq_of_lt h
+
+  pub accepted-end : (f : List ℕ) → length f < bytes → accepted_of read (length f / bytes) bytes f ≡ 0
   unfolding accepted_of
-  accepted-turn zero f h = absurd (omega arith)
-  accepted-turn (suc n) f h = let e : suc n - 1 ≡ n = omega arith in rw e refl
+  accepted-end f h = rw (none_left f h) refl
 
-  lines-turn : (left : ℕ) (f : List ℕ) (before : List ℤ) → 0 < left → lines_after read left bytes f before ≡ lines_after read (left - 1) bytes (drop bytes f) (lines_behind (read (take bytes f)) before)
+  pub lines_end : (f : List ℕ) (before : List ℤ) → length f < bytes → lines_after read (length f / bytes) bytes f before ≡ before
   unfolding lines_after
-  lines-turn zero f before h = absurd (omega arith)
-  lines-turn (suc n) f before h = let e : suc n - 1 ≡ n = omega arith in rw e refl
-
-  pub accepted-end : (left : ℕ) (f : List ℕ) → left ≤ 0 → accepted_of read left bytes f ≡ 0
-  unfolding accepted_of
-  accepted-end left f h = let e : left ≡ 0 = omega arith in rw e refl
-
-  pub lines_end : (left : ℕ) (f : List ℕ) (before : List ℤ) → left ≤ 0 → lines_after read left bytes f before ≡ before
-  unfolding lines_after
-  lines_end left f before h = let e : left ≡ 0 = omega arith in rw e refl
-
-  -- from a place on, by what the code has of the frame there
-  module _ (left at : ℕ) (f : List ℕ) (h : 0 < left) where
-    pub accepted-next : (one : ℕ) → one ≡ one_if_read (read (take (at + bytes - at) (drop at f))) → accepted_of read left bytes (drop at f) ≡ one + accepted_of read (left - 1) bytes (drop (at + bytes) f)
-    accepted-next one e = rw (accepted-turn left (drop at f) h, ← next_row at bytes f, ← e, drop-drop) refl
-
-    pub lines_next : (before behind : List ℤ) → behind ≡ lines_behind (read (take (at + bytes - at) (drop at f))) before → lines_after read left bytes (drop at f) before ≡ lines_after read (left - 1) bytes (drop (at + bytes) f) behind
-    lines_next before behind e = rw (lines-turn left (drop at f) before h, ← next_row at bytes f, ← e, drop-drop) refl
+  lines_end f before h = rw (none_left f h) refl
 
   -- each frame of this length is refused
   module _ (none : (g : List ℕ) → length g ≡ bytes → (r : Reply) × (read g ≡ refused r)) where
@@ -91,8 +102,14 @@ module _ (k : Configuration) (t : Tables) (count bytes : ℕ) (frames : List ℕ
     sym (none-lines (read_frame k t count) bytes none (length frames / bytes) frames before (all_fit frames bytes)),
   )
 
-  pub lines-nothing : {r : Reply} → frame_lines k bytes ≡ refused r → Nothing
+  lines-nothing : {r : Reply} → frame_lines k bytes ≡ refused r → Nothing
   lines-nothing {r} e = nothing (λ g s. (r, lines-refused k t count g (ap (λ (n : ℕ). frame_lines k n) s ∙ e)))
+
+  -- no lines are what the checks answer
+  pub unencoded-nothing : (r : FrameLines) → frame_lines_of r ≡ frame_lines k bytes → ((ne : ℕ) → r ≡ Encoded ne → ⊥) → Nothing
+  unencoded-nothing (Encoded ne) e none = absurd (none ne refl)
+  unencoded-nothing OutsideLimits e none = lines-nothing (sym e)
+  unencoded-nothing (WrongLength n) e none = lines-nothing (sym e)
 
   module _ (ne : ℕ) (e : frame_lines k bytes ≡ accepted ne) where
     pub tables-nothing : tables_pass t ≡ false → Nothing

@@ -1,4 +1,3 @@
 pub mod Answers
 pub mod Contents
 pub mod Frames
-pub mod Places

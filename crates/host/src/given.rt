@@ -2,13 +2,13 @@
 ghost use Rattle.std.specs.Prelude.{◌≡◌, get_or};
 ghost use Rattle.host.specs.Given.{side_of, places_of};
 
-use crate::copies;
+use common::inner::lay;
 use side_info::{SideInfo, Sns};
 
 fn word(words: &[u32], k: usize) -> u32
     ensures { result ≡ get_or words.now k 0 }
 {
-    if k < words.len() { words[k] } else { 0 }
+    words.get(k).copied().unwrap_or(0)
 }
 
 fn sns(words: &[u32]) -> Sns
@@ -49,6 +49,6 @@ pub(crate) fn places(indices: &[usize]) -> [usize; 16]
     ensures { result ≡ places_of indices.now }
 {
     let mut found = [0; 16];
-    copies::put(&mut found, indices);
+    lay(&mut found, indices);
     found
 }

@@ -13,7 +13,6 @@ ghost use Rattle.host.specs.Many.{accepted_of, lines_after};
 ghost use Rattle.host.specs.Told.{number_of, words_behind, numbers_behind, indices_behind, residual_behind, place_behind, next_or_place};
 ghost use Rattle.recording.specs.Writer.{write_field, buffer_behind, end_behind};
 
-mod copies;
 mod given;
 mod many;
 mod tell;
@@ -173,7 +172,7 @@ pub fn lc3_tables_pass(
 ) -> u32
     ensures { result ≡ cond (tables_pass (record { lookup = lookup.entry.now; frequencies = frequencies.now; bits = bits.now; orders = orders.now; coefficients = coefficients.now })) 1 0 }
 {
-    told::one_if(common::tables::tables_pass(lookup, frequencies, bits, orders, coefficients))
+    u32::from(common::tables::tables_pass(lookup, frequencies, bits, orders, coefficients))
 }
 
 // Fills the flat set into the lent slices, each as far as it is long.
@@ -215,30 +214,25 @@ pub fn lc3_read_frames(
         duration,
         reading,
     };
-    match configuration.frame_lines(bytes) {
-        FrameLines::OutsideLimits => 0,
-        FrameLines::WrongLength(_) => 0,
-        FrameLines::Encoded(ne) => {
-            if !common::tables::tables_pass(lookup, frequencies, bits, orders, coefficients) {
-                return 0;
-            }
-            if lines.len() < ne {
-                return 0;
-            }
-            let count = frames.len() / bytes;
-            many::read_each(
-                configuration,
-                ne,
-                lookup,
-                frequencies,
-                bits,
-                orders,
-                coefficients,
-                frames,
-                bytes,
-                count,
-                lines,
-            )
-        }
+    let FrameLines::Encoded(ne) = configuration.frame_lines(bytes) else {
+        return 0;
+    };
+    if !common::tables::tables_pass(lookup, frequencies, bits, orders, coefficients) {
+        return 0;
     }
+    if lines.len() < ne {
+        return 0;
+    }
+    many::read_each(
+        configuration,
+        ne,
+        lookup,
+        frequencies,
+        bits,
+        orders,
+        coefficients,
+        frames,
+        bytes,
+        lines,
+    )
 }

@@ -1,5 +1,5 @@
 // Frames of one length, one behind the other, with the checks 1 to 4 done once.
-ghost use Rattle.std.specs.Prelude.{◌≡◌, true, ◌*◌, ◌/◌, ◌≤◌, length};
+ghost use Rattle.std.specs.Prelude.{◌≡◌, true, ◌/◌, ◌≤◌, length};
 ghost use Rattle.common.specs.Reply.{accepted};
 ghost use Rattle.common.specs.Configuration.{frame_lines};
 ghost use Rattle.common.specs.Tables.{tables_pass};
@@ -47,11 +47,10 @@ fn read_one(
         frame,
         lines,
     );
-    let outcome = answer.outcome;
-    one_if_read(outcome)
+    one_if_read(answer.outcome)
 }
 
-// So many of them.
+// As many of them as fit.
 pub(crate) fn read_each(
     configuration: Configuration,
     ne: usize,
@@ -62,18 +61,14 @@ pub(crate) fn read_each(
     coefficients: &[u16],
     frames: &[u8],
     bytes: usize,
-    count: usize,
     lines: &mut [i32],
 ) -> usize
-    requires { (frame_lines configuration bytes ≡ accepted ne) × (tables_pass (record { lookup = lookup.now; frequencies = frequencies.now; bits = bits.now; orders = orders.now; coefficients = coefficients.now }) ≡ true) × (ne ≤ length lines.old) × (count * bytes ≤ length frames.now) }
-    ensures number { result ≡ accepted_of (read_frame configuration (record { lookup = lookup.entry.now; frequencies = frequencies.now; bits = bits.now; orders = orders.now; coefficients = coefficients.now }) (length lines.old)) count bytes frames.now }
-    ensures lent { lines.new ≡ lines_after (read_frame configuration (record { lookup = lookup.entry.now; frequencies = frequencies.now; bits = bits.now; orders = orders.now; coefficients = coefficients.now }) (length lines.old)) count bytes frames.now lines.old }
+    requires { (frame_lines configuration bytes ≡ accepted ne) × (tables_pass (record { lookup = lookup.now; frequencies = frequencies.now; bits = bits.now; orders = orders.now; coefficients = coefficients.now }) ≡ true) × (ne ≤ length lines.old) }
+    ensures number { result ≡ accepted_of (read_frame configuration (record { lookup = lookup.entry.now; frequencies = frequencies.now; bits = bits.now; orders = orders.now; coefficients = coefficients.now }) (length lines.old)) (length frames.now / bytes) bytes frames.now }
+    ensures lent { lines.new ≡ lines_after (read_frame configuration (record { lookup = lookup.entry.now; frequencies = frequencies.now; bits = bits.now; orders = orders.now; coefficients = coefficients.now }) (length lines.old)) (length frames.now / bytes) bytes frames.now lines.old }
 {
-    let mut left = count;
-    let mut at = 0;
     let mut read = 0;
-    while 0 < left {
-        let end = at + bytes;
+    for frame in frames.chunks_exact(bytes) {
         read += read_one(
             configuration,
             ne,
@@ -82,11 +77,9 @@ pub(crate) fn read_each(
             bits,
             orders,
             coefficients,
-            &frames[at..end],
+            frame,
             lines,
         );
-        at = end;
-        left -= 1;
     }
     read
 }

@@ -7,7 +7,8 @@ ghost use Rattle.frame_writer.specs.Returned.{written_of};
 ghost use Rattle.host.specs.Told.{number_of, words_of, counts_of, place_of, words_behind, numbers_behind, place_behind, next_or_place};
 ghost use Rattle.recording.specs.Writer.{written_of as Field·written_of};
 
-use crate::{copies, told};
+use crate::told;
+use common::inner::lay;
 use frame_reader::{FrameError, FrameRead, Numbers, Outcome};
 use frame_writer::FrameWritten;
 use recording::writer::FieldWritten;
@@ -16,28 +17,23 @@ fn tell_lists(answer: FrameRead, indices: &mut [usize], residual: &mut [u8])
     ensures tns { indices.new ≡ sets indices.old 0 answer.indices }
     ensures list { residual.new ≡ sets residual.old 0 answer.residual }
 {
-    let found = answer.indices;
-    let list = answer.residual;
-    copies::put(indices, &found);
-    common::inner::lay_bytes(residual, &list);
+    lay(indices, &answer.indices);
+    lay(residual, &answer.residual);
 }
 
 fn tell_numbers(n: Numbers, words: &mut [u32], numbers: &mut [usize])
     ensures sums { words.new ≡ sets words.old 0 (words_of n) }
     ensures counts { numbers.new ≡ sets numbers.old 0 (counts_of n) }
 {
-    let first = told::words(n);
-    let second = told::counts(n);
-    copies::put_words(words, &first);
-    copies::put(numbers, &second);
+    lay(words, &told::words(n));
+    lay(numbers, &told::counts(n));
 }
 
 fn tell_refusal(e: FrameError, numbers: &mut [usize]) -> u32
     ensures number { result ≡ (reply_of e).number }
     ensures place { numbers.new ≡ sets numbers.old 0 (place_of (reply_of e)) }
 {
-    let place = told::place(e);
-    copies::put(numbers, &place);
+    lay(numbers, &told::place(e));
     told::number(e)
 }
 
@@ -54,8 +50,7 @@ pub(crate) fn tell(
     ensures tns { indices.new ≡ unless_refused (outcome_of answer.outcome) indices.old (sets indices.old 0 answer.indices) }
     ensures list { residual.new ≡ unless_refused (outcome_of answer.outcome) residual.old (sets residual.old 0 answer.residual) }
 {
-    let outcome = answer.outcome;
-    match outcome {
+    match answer.outcome {
         Outcome::Read(n) => {
             tell_lists(answer, indices, residual);
             tell_numbers(n, words, numbers);
@@ -72,8 +67,7 @@ pub(crate) fn tell_written(answer: FrameWritten, numbers: &mut [usize]) -> u32
     match answer {
         FrameWritten::Written => 0,
         FrameWritten::Refused(e) => {
-            let place = told::write_place(e);
-            copies::put(numbers, &place);
+            lay(numbers, &told::write_place(e));
             told::write_number(e)
         }
     }
@@ -85,13 +79,11 @@ pub(crate) fn tell_field(answer: FieldWritten, numbers: &mut [usize]) -> u32
 {
     match answer {
         FieldWritten::Written(end) => {
-            let next = [end];
-            copies::put(numbers, &next);
+            lay(numbers, &[end]);
             0
         }
         FieldWritten::Refused(e) => {
-            let place = told::field_place(e);
-            copies::put(numbers, &place);
+            lay(numbers, &told::field_place(e));
             told::field_number(e)
         }
     }

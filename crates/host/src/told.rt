@@ -1,5 +1,5 @@
 // An accepted frame's numbers and a refusal's place, as arrays of fixed length.
-ghost use Rattle.std.specs.Prelude.{◌≡◌, cond};
+ghost use Rattle.std.specs.Prelude.{◌≡◌};
 ghost use Rattle.coding.specs.Coding.{refusal_of, met_of};
 ghost use Rattle.frame_reader.specs.Returned.{reply_of};
 ghost use Rattle.frame_writer.specs.Returned.{reply_of as Written·reply_of};
@@ -12,22 +12,9 @@ use frame_reader::{FrameError, Numbers};
 use frame_writer::WriteError;
 use recording::writer::FieldWriteError;
 
-pub(crate) fn one_if(flag: bool) -> u32
-    ensures { result ≡ cond flag 1 0 }
-{
-    if flag { 1 } else { 0 }
-}
-
-fn wide(n: u32) -> usize
-    ensures { result ≡ n }
-{
-    n as usize
-}
-
 pub(crate) fn words(n: Numbers) -> [u32; 22]
     ensures { result ≡ words_of n }
 {
-    let zero = one_if(n.zero);
     let s = n.side;
     [
         s.bandwidth,
@@ -50,7 +37,7 @@ pub(crate) fn words(n: Numbers) -> [u32; 22]
         s.index,
         s.noise,
         n.seed,
-        zero,
+        u32::from(n.zero),
         n.range,
     ]
 }
@@ -73,11 +60,7 @@ fn in_step(e: Refusal, step: usize, first: usize, second: usize) -> [usize; 5]
     match e {
         Refusal::NoTailRoom(width, place) => [width, place, step, first, second],
         Refusal::PastEnd(head) => [head, 0, step, first, second],
-        Refusal::LowBeyondLimit(low, limit) => {
-            let l = wide(low);
-            let m = wide(limit);
-            [l, m, step, first, second]
-        }
+        Refusal::LowBeyondLimit(low, limit) => [low as usize, limit as usize, step, first, second],
     }
 }
 
@@ -98,29 +81,16 @@ pub(crate) fn place(e: FrameError) -> [usize; 5]
     ensures { result ≡ place_of (reply_of e) }
 {
     match e {
-        FrameError::OutsideLimits => [0; 5],
-        FrameError::WrongLength(len) => [len, 0, 0, 0, 0],
-        FrameError::TablesFail => [0; 5],
-        FrameError::WrongCount(count) => [count, 0, 0, 0, 0],
-        FrameError::BandwidthIdxOutOfRange(bandwidth) => {
-            let b = wide(bandwidth);
-            [b, 0, 0, 0, 0]
-        }
-        FrameError::LastNonZeroTupleGreaterThanYLen(lastnz, ne) => {
-            let l = wide(lastnz);
-            [l, ne, 0, 0, 0]
-        }
-        FrameError::PlcTriggerSns1OutOfRange(j) => {
-            let n = wide(j);
+        FrameError::OutsideLimits | FrameError::TablesFail | FrameError::NegativeResidualNumBits =>
+            [0; 5],
+        FrameError::WrongLength(n) | FrameError::WrongCount(n) | FrameError::FourteenEscapes(n) => {
             [n, 0, 0, 0, 0]
         }
-        FrameError::PlcTriggerSns2OutOfRange(j) => {
-            let n = wide(j);
-            [n, 0, 0, 0, 0]
-        }
+        FrameError::BandwidthIdxOutOfRange(n)
+        | FrameError::PlcTriggerSns1OutOfRange(n)
+        | FrameError::PlcTriggerSns2OutOfRange(n) => [n as usize, 0, 0, 0, 0],
+        FrameError::LastNonZeroTupleGreaterThanYLen(lastnz, ne) => [lastnz as usize, ne, 0, 0, 0],
         FrameError::Step(m) => met_place(m),
-        FrameError::FourteenEscapes(pair) => [pair, 0, 0, 0, 0],
-        FrameError::NegativeResidualNumBits => [0; 5],
     }
 }
 
@@ -138,12 +108,12 @@ fn met_number(m: Met) -> u32
     ensures { result ≡ (met_of m).number }
 {
     match m {
-        Met::Side(e) => refusal_number(e),
-        Met::Start(e) => refusal_number(e),
-        Met::Order(_, e) => refusal_number(e),
-        Met::Coef(_, _, e) => refusal_number(e),
-        Met::Symbol(_, _, e) => refusal_number(e),
-        Met::Bit(_, _, e) => refusal_number(e),
+        Met::Side(e)
+        | Met::Start(e)
+        | Met::Order(_, e)
+        | Met::Coef(_, _, e)
+        | Met::Symbol(_, _, e)
+        | Met::Bit(_, _, e) => refusal_number(e),
     }
 }
 
@@ -169,14 +139,14 @@ pub(crate) fn write_place(e: WriteError) -> [usize; 5]
     ensures { result ≡ place_of (Written·reply_of e) }
 {
     match e {
-        WriteError::OutsideLimits => [0; 5],
-        WriteError::WrongLength(len) => [len, 0, 0, 0, 0],
-        WriteError::TablesFail => [0; 5],
-        WriteError::WrongCount(count) => [count, 0, 0, 0, 0],
-        WriteError::FieldOutside => [0; 5],
-        WriteError::LineOutside(place) => [place, 0, 0, 0, 0],
-        WriteError::ResidualTooLong => [0; 5],
-        WriteError::NoRoom => [0; 5],
+        WriteError::OutsideLimits
+        | WriteError::TablesFail
+        | WriteError::FieldOutside
+        | WriteError::ResidualTooLong
+        | WriteError::NoRoom => [0; 5],
+        WriteError::WrongLength(n) | WriteError::WrongCount(n) | WriteError::LineOutside(n) => {
+            [n, 0, 0, 0, 0]
+        }
     }
 }
 

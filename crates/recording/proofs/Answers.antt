@@ -1,15 +1,15 @@
 -- What stands at an offset, case by case: the end, 18, a field; and what is known of a field that was found.
 -- Assumes nothing.
-use Prim.Native.Nat.{ℕ, ◌+◌, ◌-◌, ◌≤◌, ◌<◌}
+use Prim.Native.Nat.{ℕ, ◌+◌, ◌≤◌, ◌<◌}
 use mathlib.Core.Path.{◌≡◌, refl, sym, ap, ◌∙◌}
 use mathlib.Core.Bool.{Bool, true, false, cond, not, ◌&&◌}
 use mathlib.Core.List.{List}
 use native.Mathlib.Omega.{arith}
-use borrow.Author.Tests.{eq-eqb, ne_eqb, lt-leb, le-leb, leb-true, eqb-true}
+use borrow.Author.Tests.{eq-eqb, ne_eqb, lt-leb, leb-true, eqb-true}
 use lib.Dec.{leb, eqb}
 use lib.ListN.{length}
 use Rattle.common.specs.Reply.{Reply, accepted, refused, given, field_malformed}
-use Rattle.common.proofs.Bools.{and_left, and_right, same_test}
+use Rattle.common.proofs.Bools.{and_left, and_right}
 use Rattle.common.proofs.Replies.{no-refusal}
 use Rattle.recording.specs.Tagged.{found, ends, header_at, end_of, complete, formed, field_at}
 use Rattle.recording.specs.declared.reader.Before.{Before}
@@ -29,17 +29,6 @@ module _ (most : ℕ) (b : Before) (input : List ℕ) (at : ℕ) where
 
   pub field_found : (at ≡ length input → ⊥) → (complete most (length input) (header_at input at) && formed b (header_at input at)) ≡ true → field_at most b input at ≡ accepted (found (header_at input at))
   field_found n e = rw (ne_eqb at (length input) n, e) refl
-
-  -- the one conjunction that judges a field, by the answers of the code's calls
-  pub field-judged : {r two there bound good : Bool} {x : Field} → x ≡ header_at input at → there ≡ leb (x.content + x.size) (length input) → bound ≡ leb (x.content + x.size) most → two ≡ (there && bound) → good ≡ formed b x → r ≡ (two && good) → r ≡ (complete most (length input) (header_at input at) && formed b (header_at input at))
-  field-judged h t l w g r = r ∙ rw (w, t, l, g, h) refl
-
--- a sum within a length, by the difference
-pub end-judged : (at bytes len : ℕ) → bytes ≤ len → leb at (len - bytes) ≡ leb (at + bytes) len
-end-judged at bytes len h =
-    same_test (leb at (len - bytes)) (leb (at + bytes) len)
-    (λ e. let l = leb-true at (len - bytes) e in le-leb (at + bytes) len (omega arith))
-    (λ e. let l = leb-true (at + bytes) len e in le-leb at (len - bytes) (omega arith))
 
 -- which of its cases an answer is
 split-found : (t g : Bool) (r : Reply) (h x : Field) → cond t (accepted ends) (given (not g) r (accepted (found h))) ≡ accepted (found x) → (t ≡ false) × (g ≡ true) × (h ≡ x)

@@ -1,6 +1,6 @@
 -- A frame's field in a buffer: the frame stands in the part behind the header, and the header is laid before it. The two share no byte,
 -- so in either order they make the field. Assumes nothing.
-use Prim.Native.Nat.{ℕ, zero, suc, ◌+◌, ◌-◌, ◌/◌, ◌%◌, ◌≤◌, ◌<◌}
+use Prim.Native.Nat.{ℕ, suc, ◌+◌, ◌-◌, ◌/◌, ◌%◌, ◌≤◌, ◌<◌}
 use mathlib.Core.Path.{◌≡◌, refl, sym, ap, subst, ◌∙◌}
 use mathlib.Core.Bool.{true, false}
 use mathlib.Core.List.{List, [], ◌∷◌, ◌++◌, append_assoc}
@@ -8,7 +8,7 @@ use native.Mathlib.Omega.{arith}
 use lib.Dec.{leb}
 use lib.ListN.{length, take, drop, set}
 use lib.Seq.{sets, sets-eq, set_comm}
-use borrow.Rule.Slice.PartMut.{mid_of, post_of, put_mid, Post-is, put_same, mid_len}
+use borrow.Rule.Slice.PartMut.{mid_of, put_mid, Post-is, put_same}
 use borrow.Author.Tests.{lt-leb, leb-true}
 use Rattle.common.specs.Reply.{Reply, Answer, accepted, refused, and_then, field_malformed}
 use Rattle.common.specs.Tables.{Tables}
@@ -53,17 +53,6 @@ field-laid b o bytes tag high low frame size room =
     ap (λ (g : List ℕ). sets g o (tag ∷ high ∷ low ∷ [])) (part-laid (o + 3) (o + 3 + bytes) b frame (omega arith) room (omega (arith, size))) ∙
     laid_both b (o + 3) frame o (tag ∷ high ∷ low ∷ []) (omega arith) ∙
     sym (sets-append b o (tag ∷ high ∷ low ∷ []) frame)
-
--- three stores are the header laid
-pub header-stored : (b : List ℕ) (o tag high low : ℕ) → set (set (set b o tag) (o + 1) high) (o + 2) low ≡ sets b o (tag ∷ high ∷ low ∷ [])
-header-stored b o tag high low =
-    ap (λ (n : ℕ). set (set (set b o tag) n high) (o + 2) low) one ∙ ap (λ (n : ℕ). set (set (set b o tag) (suc o) high) n low) two
-  where
-    one : o + 1 ≡ suc o
-    one = omega arith
-
-    two : o + 2 ≡ suc (suc o)
-    two = omega arith
 
 -- what the call answers, and the buffer behind it
 pub record Answered (k : Configuration) (t : Tables) (w : Content) (bytes offset : ℕ) (b : List ℕ) (answer : Answer ℕ) (last : List ℕ) : Type 0 where

@@ -1,12 +1,13 @@
 -- The numbers of a table's content: how many there are, and which two bytes each is made of.
 -- Assumes nothing.
-use Prim.Native.Nat.{ℕ, zero, suc, ◌+◌, ◌*◌, ◌/◌, ◌<◌}
+use Prim.Native.Nat.{ℕ, zero, suc, ◌+◌, ◌*◌, ◌/◌, ◌<◌, ◌≤◌, min}
 use mathlib.Core.Path.{◌≡◌, refl}
 use mathlib.Core.List.{List, [], ◌∷◌}
+use native.Mathlib.Decide.{dec_lt}
 use native.Mathlib.Omega.{arith}
 use lib.ListN.{length, get_or, drop, set}
 use lib.Seq.{sets}
-use Rattle.common.proofs.Laid.{sets-turn}
+use Rattle.common.proofs.Laid.{sets-turn, sets-past, sets_end}
 use Rattle.recording.specs.Contents.{words_of}
 
 pub words-length : (xs : List ℕ) → length (words_of xs) ≡ length xs / 2
@@ -30,3 +31,11 @@ pub words-turn : (out xs : List ℕ) (i v : ℕ) → i < length xs / 2 → v ≡
 words-turn out xs i v h e =
     let there : i < length (words_of xs) = omega (arith, words-length xs) in
     rw (e, ← word_at xs i h) (sets-turn out (words_of xs) i there)
+
+-- no word more: the slice or the list of words ends there
+pub words-end : (out xs : List ℕ) (i : ℕ) → min (length out) (length xs / 2) ≤ i → sets out i (drop i (words_of xs)) ≡ out
+words-end out xs i h = go (dec_lt i (length out))
+  where
+    go : Dec (i < length out) → sets out i (drop i (words_of xs)) ≡ out
+    go (yes l) = sets_end out (words_of xs) i (omega (arith, words-length xs, h, l))
+    go (no n) = sets-past (drop i (words_of xs)) out i (omega (arith, n))

@@ -1,10 +1,9 @@
 -- Document 01, "Dump": "tagged fields (tag byte, two-byte big-endian length)", in an input of any length. Nothing says how it arrives.
-use Rattle.std.specs.Prelude.{ℕ, ◌+◌, ◌*◌, Bool, true, false, cond, not, ◌&&◌, ◌||◌, List, leb, eqb, length, get_or}
+use Rattle.std.specs.Prelude.{ℕ, ◌+◌, ◌*◌, Bool, true, false, cond, not, ◌&&◌, ◌||◌, List, leb, eqb, length, get_or, Result, Ok, Err, Option, None, Some}
 use Rattle.common.specs.Reply.{Answer, accepted, refused, given, field_malformed}
 use Rattle.recording.specs.declared.reader.Before.{Before}
 use Rattle.recording.specs.declared.reader.Field.{Field}
-use Rattle.recording.specs.declared.reader.FieldAt.{FieldAt}
-use Rattle.recording.specs.declared.reader.FieldAt.TheVariants.{Found, End, Malformed}
+use Rattle.recording.specs.declared.reader.Malformed.{Malformed}
 
 -- "its length is over 4,096"
 abbrev pub field_most : ℕ
@@ -109,8 +108,8 @@ field_at most b input at =
     (given (not (complete most (length input) (header_at input at) && formed b (header_at input at))) (field_malformed at)
     (accepted (found (header_at input at))))
 
--- what the enum of the answer says
-abbrev pub answer_of : FieldAt → Answer Next
-answer_of (Found x) = accepted (found x)
-answer_of End = accepted ends
-answer_of (Malformed at) = refused (field_malformed at)
+-- what the answer says: none is the input's end
+abbrev pub answer_of : Result (Option Field) Malformed → Answer Next
+answer_of (Ok (Some x)) = accepted (found x)
+answer_of (Ok None) = accepted ends
+answer_of (Err e) = refused (field_malformed e.0)

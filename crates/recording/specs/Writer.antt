@@ -1,6 +1,6 @@
 -- Document 01, "Dump": "Writing such a field, the frame goes straight into the part behind its three header bytes." "The field writer gives
 -- 18, with the offset where the field would begin, before the frame's own refusals."
-use Rattle.std.specs.Prelude.{ℕ, ◌+◌, ◌/◌, ◌%◌, not, ◌&&◌, List, ◌∷◌, leb, length}
+use Rattle.std.specs.Prelude.{ℕ, ◌+◌, ◌/◌, ◌%◌, not, ◌&&◌, List, ◌∷◌, leb, length, Result, Ok, Err}
 use Rattle.std.proofs.lemmas.List.Edits.{sets}
 use Rattle.common.specs.Reply.{Reply, Answer, accepted, refused, given, and_then, field_malformed}
 use Rattle.common.specs.Tables.{Tables}
@@ -10,8 +10,6 @@ use Rattle.frame_writer.specs.Returned
 use Rattle.recording.specs.Tagged.{field_most, tag_frame}
 use Rattle.recording.specs.declared.writer.FieldWriteError.{FieldWriteError}
 use Rattle.recording.specs.declared.writer.FieldWriteError.TheVariants.{NoPlace, Frame}
-use Rattle.recording.specs.declared.writer.FieldWritten.{FieldWritten}
-use Rattle.recording.specs.declared.writer.FieldWritten.TheVariants.{Written, Refused}
 
 -- a frame's field: "tag byte, two-byte big-endian length", and the frame
 abbrev pub field_of : List ℕ → List ℕ
@@ -34,9 +32,9 @@ reply_of (NoPlace offset) = field_malformed offset
 reply_of (Frame e) = Returned.reply_of e
 
 -- where the next field begins, or the refusal
-abbrev pub written_of : FieldWritten → Answer ℕ
-written_of (Written end) = accepted end
-written_of (Refused e) = refused (reply_of e)
+abbrev pub written_of : Result ℕ FieldWriteError → Answer ℕ
+written_of (Ok end) = accepted end
+written_of (Err e) = refused (reply_of e)
 
 abbrev pub end_behind : Answer (List ℕ) → ℕ → Answer ℕ
 end_behind a offset = and_then a (λ field. accepted (offset + length field))

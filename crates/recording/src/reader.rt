@@ -1,6 +1,6 @@
 // The field at an offset of a recording, by what came before it. No content is copied.
-ghost use Rattle.std.specs.Prelude.{◌≡◌, ◌&&◌, ◌||◌, ◌+◌, ◌≤◌, leb, length};
-ghost use Rattle.recording.specs.Tagged.{suits as Tagged·suits, nothing, after as Tagged·after, table_seen, ready as Tagged·ready, in_order, header_at, complete as Tagged·complete, formed as Tagged·formed, field_at, answer_of};
+ghost use Rattle.std.specs.Prelude.{◌≡◌, ◌+◌, ◌≤◌, leb, length};
+ghost use Rattle.recording.specs.Tagged.{suits as Tagged·suits, nothing, after as Tagged·after, table_seen, ready as Tagged·ready, in_order, header_at, formed as Tagged·formed, field_at, answer_of};
 
 use crate::tags;
 
@@ -27,25 +27,9 @@ pub struct Field {
     pub size: usize,
 }
 
-// What stands at an offset; refusal 18 has the offset.
+// Refusal 18: the offset where the field begins that is malformed.
 #[derive(Clone, Copy)]
-pub enum FieldAt {
-    Found(Field),
-    End,
-    Malformed(usize),
-}
-
-fn either(a: bool, b: bool) -> bool
-    ensures { result ≡ (a || b) }
-{
-    if a { true } else { b }
-}
-
-fn both(a: bool, b: bool) -> bool
-    ensures { result ≡ (a && b) }
-{
-    if a { b } else { false }
-}
+pub struct Malformed(pub usize);
 
 impl Before {
     pub fn nothing() -> Before
@@ -66,44 +50,37 @@ impl Before {
         ensures { result ≡ Tagged·after self tag }
     {
         Before {
-            configuration: either(self.configuration, tag == tags::CONFIGURATION),
-            lookup: either(self.lookup, tag == tags::LOOKUP),
-            frequencies: either(self.frequencies, tag == tags::FREQUENCIES),
-            bits: either(self.bits, tag == tags::BITS),
-            orders: either(self.orders, tag == tags::ORDERS),
-            coefficients: either(self.coefficients, tag == tags::COEFFICIENTS),
+            configuration: self.configuration || tag == tags::CONFIGURATION,
+            lookup: self.lookup || tag == tags::LOOKUP,
+            frequencies: self.frequencies || tag == tags::FREQUENCIES,
+            bits: self.bits || tag == tags::BITS,
+            orders: self.orders || tag == tags::ORDERS,
+            coefficients: self.coefficients || tag == tags::COEFFICIENTS,
         }
     }
 
     fn table_seen(self, tag: u8) -> bool
         ensures { result ≡ table_seen self tag }
     {
-        if tag == tags::LOOKUP {
-            return self.lookup;
+        match tag {
+            tags::LOOKUP => self.lookup,
+            tags::FREQUENCIES => self.frequencies,
+            tags::BITS => self.bits,
+            tags::ORDERS => self.orders,
+            tags::COEFFICIENTS => self.coefficients,
+            _ => false,
         }
-        if tag == tags::FREQUENCIES {
-            return self.frequencies;
-        }
-        if tag == tags::BITS {
-            return self.bits;
-        }
-        if tag == tags::ORDERS {
-            return self.orders;
-        }
-        if tag == tags::COEFFICIENTS {
-            return self.coefficients;
-        }
-        false
     }
 
     fn ready(self) -> bool
         ensures { result ≡ Tagged·ready self }
     {
-        let two = both(self.configuration, self.lookup);
-        let three = both(two, self.frequencies);
-        let four = both(three, self.bits);
-        let five = both(four, self.orders);
-        both(five, self.coefficients)
+        self.configuration
+            && self.lookup
+            && self.frequencies
+            && self.bits
+            && self.orders
+            && self.coefficients
     }
 
     fn in_order(self, tag: u8) -> bool
@@ -120,37 +97,21 @@ impl Before {
 fn suits(tag: u8, size: usize) -> bool
     ensures { result ≡ Tagged·suits tag size }
 {
-    if tag == tags::CONFIGURATION {
-        return size == 3;
+    match tag {
+        tags::CONFIGURATION => size == 3,
+        tags::FRAME => true,
+        tags::LOOKUP => size == 4096,
+        tags::FREQUENCIES | tags::BITS => size == 2176,
+        tags::ORDERS => size == 32,
+        tags::COEFFICIENTS => size == 272,
+        _ => false,
     }
-    if tag == tags::FRAME {
-        return true;
-    }
-    if tag == tags::LOOKUP {
-        return size == 4096;
-    }
-    if tag == tags::FREQUENCIES {
-        return size == 2176;
-    }
-    if tag == tags::BITS {
-        return size == 2176;
-    }
-    if tag == tags::ORDERS {
-        return size == 32;
-    }
-    if tag == tags::COEFFICIENTS {
-        return size == 272;
-    }
-    false
 }
 
 fn formed(before: Before, x: Field) -> bool
     ensures { result ≡ Tagged·formed before x }
 {
-    let known = suits(x.tag, x.size);
-    let short = x.size <= FIELD_MOST;
-    let ordered = before.in_order(x.tag);
-    both(both(known, short), ordered)
+    suits(x.tag, x.size) && x.size <= FIELD_MOST && before.in_order(x.tag)
 }
 
 // The two bytes of a length are a number below 65,536.
@@ -158,7 +119,7 @@ fn header(input: &[u8], at: usize) -> Field
     requires { at + 3 ≤ length input.now }
     ensures { result ≡ header_at input.now at }
 {
-    let size = crate::contents::word(input[at + 1], input[at + 2]) as usize;
+    let size = usize::from(u16::from_be_bytes([input[at + 1], input[at + 2]]));
     Field {
         tag: input[at],
         at,
@@ -171,27 +132,28 @@ fn header(input: &[u8], at: usize) -> Field
 pub(crate) fn within(at: usize, bytes: usize, len: usize) -> bool
     ensures { result ≡ leb (at + bytes) len }
 {
-    if len < bytes {
-        return false;
-    }
-    at <= len - bytes
+    bytes <= len && at <= len - bytes
 }
 
-pub fn field_at(input: &[u8], offset: usize, most: usize, before: Before) -> FieldAt
+pub fn field_at(
+    input: &[u8],
+    offset: usize,
+    most: usize,
+    before: Before,
+) -> Result<Option<Field>, Malformed>
     ensures { answer_of result ≡ field_at most before input.now offset }
 {
     let len = input.len();
     if offset == len {
-        return FieldAt::End;
+        return Ok(None);
     }
     if !within(offset, 3, len) {
-        return FieldAt::Malformed(offset);
+        return Err(Malformed(offset));
     }
     let x = header(input, offset);
-    let there = within(x.content, x.size, len);
-    let bound = within(x.content, x.size, most);
-    if !both(both(there, bound), formed(before, x)) {
-        return FieldAt::Malformed(offset);
+    let whole = within(x.content, x.size, len) && within(x.content, x.size, most);
+    if !(whole && formed(before, x)) {
+        return Err(Malformed(offset));
     }
-    FieldAt::Found(x)
+    Ok(Some(x))
 }

@@ -1,4 +1,4 @@
-// The tags of a recording's fields.
+// The tags of a recording's fields: bytes as they stand in it, and no enum, since any other byte may stand there too.
 pub const CONFIGURATION: u8 = 0x01;
 
 pub const FRAME: u8 = 0x02;

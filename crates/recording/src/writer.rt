@@ -3,6 +3,7 @@ ghost use Rattle.std.specs.Prelude.{◌≡◌, ◌+◌, ◌/◌, ◌%◌, ◌≤
 ghost use Rattle.std.proofs.lemmas.List.Edits.{sets};
 ghost use Rattle.recording.specs.Tagged.{tag_frame};
 ghost use Rattle.recording.specs.Writer.{write_field, buffer_behind, written_of, end_behind};
+ghost use Rattle.recording.specs.declared.writer.FieldWriteError.TheVariants.{Frame};
 
 use crate::reader::FIELD_MOST;
 use crate::tags;
@@ -16,10 +17,12 @@ pub enum FieldWriteError {
     Frame(WriteError),
 }
 
-#[derive(Clone, Copy)]
-pub enum FieldWritten {
-    Written(usize),
-    Refused(FieldWriteError),
+impl From<WriteError> for FieldWriteError {
+    ghost from_gives = { λ e r. r ≡ Frame e };
+
+    fn from(e: WriteError) -> FieldWriteError {
+        FieldWriteError::Frame(e)
+    }
 }
 
 // The tag and the two-byte length before a frame of so many bytes.
@@ -27,9 +30,8 @@ fn put_header(buffer: &mut [u8], offset: usize, bytes: usize)
     requires { (bytes ≤ 4096) × (offset + (3 + bytes) ≤ length buffer.old) }
     ensures { buffer.new ≡ sets buffer.old offset (tag_frame ∷ bytes / 256 ∷ bytes % 256 ∷ []) }
 {
-    buffer[offset] = tags::FRAME;
-    buffer[offset + 1] = (bytes / 256) as u8;
-    buffer[offset + 2] = (bytes % 256) as u8;
+    let [high, low] = (bytes as u16).to_be_bytes();
+    buffer[offset..offset + 3].copy_from_slice(&[tags::FRAME, high, low]);
 }
 
 // A frame of so many bytes in a field at an offset: where the next field begins, or the refusal.
@@ -49,15 +51,12 @@ pub fn write_frame(
     indices: [usize; 16],
     lines: &[i16],
     residual: &[u8],
-) -> FieldWritten
+) -> Result<usize, FieldWriteError>
     ensures answer { written_of result ≡ end_behind (write_field configuration (record { lookup = lookup.entry.now; frequencies = frequencies.now; bits = bits.now; orders = orders.now; coefficients = coefficients.now }) (record { side = side; first = first_order; second = second_order; indices = indices; lines = lines.now; residual = residual.now }) bytes (length buffer.old) offset) offset }
     ensures lent { buffer.new ≡ buffer_behind (write_field configuration (record { lookup = lookup.entry.now; frequencies = frequencies.now; bits = bits.now; orders = orders.now; coefficients = coefficients.now }) (record { side = side; first = first_order; second = second_order; indices = indices; lines = lines.now; residual = residual.now }) bytes (length buffer.old) offset) offset buffer.old }
 {
-    if FIELD_MOST < bytes {
-        return FieldWritten::Refused(FieldWriteError::NoPlace(offset));
-    }
-    if !crate::reader::within(offset, 3 + bytes, buffer.len()) {
-        return FieldWritten::Refused(FieldWriteError::NoPlace(offset));
+    if FIELD_MOST < bytes || !crate::reader::within(offset, 3 + bytes, buffer.len()) {
+        return Err(FieldWriteError::NoPlace(offset));
     }
     let at = offset + 3;
     let end = at + bytes;
@@ -76,10 +75,10 @@ pub fn write_frame(
         residual,
         &mut buffer[at..end],
     ) {
-        FrameWritten::Refused(e) => FieldWritten::Refused(FieldWriteError::Frame(e)),
+        FrameWritten::Refused(e) => Err(FieldWriteError::Frame(e)),
         FrameWritten::Written => {
             put_header(buffer, offset, bytes);
-            FieldWritten::Written(end)
+            Ok(end)
         }
     }
 }

@@ -1,5 +1,1 @@
-pub mod Verdicts
-pub mod Places
 pub mod Coded
-pub mod Patterns
-pub mod Signs

@@ -1,8 +1,8 @@
 // What this code answers: 0 and what is returned, or the refusal's number of document 01 and its values. A module has sixteen
 // kinds.
-use crate::number::word;
 use crate::{buffer_cases, decoder_cases, encoder_cases, quantisation_cases, side_cases};
 use buffer_reader::BufferError;
+use common::inner::lay;
 use range_decoder::CodecError;
 
 pub(crate) fn answer(kind: u8, n: [usize; 24], bytes: &mut [u8], lent: &[u8]) -> [usize; 24] {
@@ -21,47 +21,32 @@ pub(crate) fn answer(kind: u8, n: [usize; 24], bytes: &mut [u8], lent: &[u8]) ->
     }
 }
 
-pub(crate) fn told(
-    number: usize,
-    first: usize,
-    second: usize,
-    third: usize,
-    fourth: usize,
-    fifth: usize,
-) -> [usize; 24] {
+// An answer's first numbers; the others are 0.
+pub(crate) fn told(first: &[usize]) -> [usize; 24] {
     let mut all = [0; 24];
-    all[0] = number;
-    all[1] = first;
-    all[2] = second;
-    all[3] = third;
-    all[4] = fourth;
-    all[5] = fifth;
+    lay(&mut all, first);
     all
 }
 
 // What no answer is that is expected: of a call that is none, that its module does not take, or that moves what it has to leave.
 pub(crate) fn none() -> [usize; 24] {
-    told(255, 0, 0, 0, 0, 0)
-}
-
-pub(crate) fn refused(number: usize, first: usize, second: usize) -> [usize; 24] {
-    told(number, first, second, 0, 0, 0)
+    told(&[255])
 }
 
 pub(crate) fn of_buffer(why: BufferError) -> [usize; 24] {
     match why {
-        BufferError::WrongLength(len) => refused(2, len, 0),
-        BufferError::NoTailRoom(width, tail) => refused(9, width, tail),
-        BufferError::PastEnd(head) => refused(10, head, 0),
-        BufferError::WidthNotListed(width) => refused(17, width, 0),
+        BufferError::WrongLength(len) => told(&[2, len]),
+        BufferError::NoTailRoom(width, tail) => told(&[9, width, tail]),
+        BufferError::PastEnd(head) => told(&[10, head]),
+        BufferError::WidthNotListed(width) => told(&[17, width]),
     }
 }
 
 pub(crate) fn of_codec(why: CodecError) -> [usize; 24] {
     match why {
-        CodecError::OutsideLimits => refused(1, 0, 0),
-        CodecError::RowFails => refused(3, 0, 0),
-        CodecError::LowBeyondLimit(low, limit) => refused(11, word(low), word(limit)),
+        CodecError::OutsideLimits => told(&[1]),
+        CodecError::RowFails => told(&[3]),
+        CodecError::LowBeyondLimit(low, limit) => told(&[11, low as usize, limit as usize]),
         CodecError::Buffer(e) => of_buffer(e),
     }
 }

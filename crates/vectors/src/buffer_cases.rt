@@ -1,6 +1,6 @@
 // Calls of buffer_reader and buffer_writer: head, tail, width and value; the bytes are the buffer.
 use crate::answers::{none, of_buffer, told};
-use crate::number::{low, word};
+use crate::number::low;
 use buffer_reader::Cursor;
 use buffer_reader::reader::{Read, Taken};
 use buffer_writer::Written;
@@ -28,14 +28,10 @@ pub(crate) fn read(kind: u8, n: [usize; 24], buf: &[u8]) -> [usize; 24] {
 // A refused read has to leave the reader where it was: if not, the answer is none that is expected.
 fn reached(at: Cursor, r: Reached) -> [usize; 24] {
     let next = r.at;
-    let taken = r.taken;
-    match taken {
-        Taken::Value(value) => accepted(word(value), next),
+    match r.taken {
+        Taken::Value(value) => accepted(value as usize, next),
         Taken::Refused(why) => {
-            if next.head != at.head {
-                return none();
-            }
-            if next.tail != at.tail {
+            if next.head != at.head || next.tail != at.tail {
                 return none();
             }
             of_buffer(why)
@@ -45,7 +41,7 @@ fn reached(at: Cursor, r: Reached) -> [usize; 24] {
 
 // Where the next call begins, and what was read.
 pub(crate) fn accepted(value: usize, next: Cursor) -> [usize; 24] {
-    told(0, next.head, next.tail, value, 0, 0)
+    told(&[0, next.head, next.tail, value])
 }
 
 pub(crate) fn write(kind: u8, n: [usize; 24], buf: &mut [u8]) -> [usize; 24] {

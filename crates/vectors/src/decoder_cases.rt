@@ -3,7 +3,7 @@
 use crate::answers::{none, of_codec, told};
 use crate::buffer_cases::cursor;
 use crate::lists;
-use crate::number::{low, word};
+use crate::number::low;
 use buffer_reader::Cursor;
 use range_decoder::lent::SymbolAt;
 use range_decoder::{DecoderState, Started};
@@ -22,16 +22,12 @@ pub(crate) fn step(n: [usize; 24], row: &[u8], frame: &[u8]) -> [usize; 24] {
         low: low(n[2]),
         range: low(n[3]),
     };
-    let gone = forms::inner::step_by(state, frame, cursor(n), &words[0..count]);
+    let gone = forms::inner::step_by(state, frame, cursor(n), &words[..count]);
     let behind = gone.state;
-    let given = gone.given;
-    match given {
+    match gone.given {
         SymbolAt::Symbol(symbol, next) => accepted(symbol, behind, next),
         SymbolAt::Refused(why) => {
-            if behind.low != state.low {
-                return none();
-            }
-            if behind.range != state.range {
+            if behind.low != state.low || behind.range != state.range {
                 return none();
             }
             of_codec(why)
@@ -40,12 +36,12 @@ pub(crate) fn step(n: [usize; 24], row: &[u8], frame: &[u8]) -> [usize; 24] {
 }
 
 fn accepted(symbol: usize, state: DecoderState, next: Cursor) -> [usize; 24] {
-    told(
+    told(&[
         0,
         next.head,
         next.tail,
-        word(state.low),
-        word(state.range),
+        state.low as usize,
+        state.range as usize,
         symbol,
-    )
+    ])
 }

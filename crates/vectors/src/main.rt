@@ -20,7 +20,7 @@ ghost use Rattle.vectors.specs.Place.{Parts};
 use record::{Record, Taken};
 use std::io;
 use std::io::{ErrorKind, Read};
-use tally::Tally;
+use tally::{Input, Tally};
 
 // One record: this code's answer beside the one that is expected. The first that differs is said at once.
 fn replay(
@@ -33,32 +33,23 @@ fn replay(
     requires { Parts r (length buf.old) }
     ensures { IfOk result (λ next. next.lent ≡ tally.lent) }
 {
-    let kind = r.kind;
-    let bytes = r.bytes;
-    let want = r.want;
-    let numbers = number::all(&buf[8..bytes]);
-    let ours = answers::answer(kind, numbers, &mut buf[bytes..want], lent);
+    let numbers = number::all(&buf[8..r.bytes]);
+    let ours = answers::answer(r.kind, numbers, &mut buf[r.bytes..r.want], lent);
     if agreed(buf, r, ours) {
-        return Ok(tally.counted(kind));
+        return Ok(tally.counted(r.kind));
     }
     if tally.differ == 0 {
         report::difference(rt, tally.records, buf, lent, r, ours)?;
     }
-    Ok(tally.differed(kind))
+    Ok(tally.differed(r.kind))
 }
 
 // Bytes that a call leaves are compared where the record has any.
 fn agreed(buf: &[u8], r: Record, ours: [usize; 24]) -> bool
     requires { Parts r (length buf.now) }
 {
-    let bytes = r.bytes;
-    let want = r.want;
-    let left = r.left;
-    let end = r.end;
-    if !agreement::same(number::all(&buf[want..left]), ours) {
-        return false;
-    }
-    left == end || agreement::agrees(&buf[left..end], &buf[bytes..want])
+    agreement::same(number::all(&buf[r.want..r.left]), ours)
+        && (r.left == r.end || agreement::agrees(&buf[r.left..r.end], &buf[r.bytes..r.want]))
 }
 
 fn turn<R: Read>(
@@ -71,27 +62,24 @@ fn turn<R: Read>(
     requires { (length buf.old ≡ 65536) × (length lent.old ≡ 65536) × (tally.lent ≤ 65536) }
     ensures { IfOk result (λ next. next.lent ≤ 65536) }
 {
-    let taken = record::next(from, buf, lent)?;
-    match taken {
-        Taken::Whole(r) => {
-            let end = tally.lent;
-            replay(rt, buf, &lent[0..end], r, tally)
-        }
+    match record::next(from, buf, lent)? {
+        Taken::Whole(r) => replay(rt, buf, &lent[..tally.lent], r, tally),
         Taken::Lent(count) => Ok(tally.lends(count)),
-        Taken::Ended => Ok(tally.ended(false)),
-        Taken::Cut => Ok(tally.ended(true)),
+        Taken::Ended => Ok(tally.ended(Input::Ended)),
+        Taken::Cut => Ok(tally.ended(Input::Malformed)),
     }
 }
 
-// A loop has to end, and nothing says that an input does: the turns are counted down from a number that no run uses up.
+// A loop has to end, and nothing says that an input does: the turns are counted to a number that no run comes to.
 fn run<R: Read>(rt: &impl Print, from: &mut R, buf: &mut [u8], lent: &mut [u8]) -> io::Result<Tally>
     requires { (length buf.old ≡ 65536) × (length lent.old ≡ 65536) }
 {
     let mut tally = Tally::new();
-    let mut turns = u64::MAX;
-    while turns > 0 && tally.is_going {
+    for _ in 0..u64::MAX {
+        if tally.input != Input::Going {
+            break;
+        }
         tally = turn(rt, from, buf, lent, tally)?;
-        turns -= 1;
     }
     Ok(tally)
 }

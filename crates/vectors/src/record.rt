@@ -3,7 +3,7 @@
 ghost use Rattle.std.specs.Prelude.{◌≤◌, ◌≡◌, length, IfOk};
 ghost use Rattle.vectors.specs.Place.{Parts, Placed};
 
-use crate::number::{two, wide};
+use crate::number::two;
 use std::io;
 use std::io::Read;
 
@@ -30,9 +30,9 @@ fn parts(buf: &[u8]) -> Record
     requires { 8 ≤ length buf.now }
     ensures { Parts result result.end }
 {
-    let bytes = 8 + 8 * wide(buf[1]);
+    let bytes = 8 + 8 * usize::from(buf[1]);
     let want = bytes + two(buf, 4);
-    let left = want + 8 * wide(buf[2]);
+    let left = want + 8 * usize::from(buf[2]);
     let end = left + two(buf, 6);
     Record {
         kind: buf[0],
@@ -71,15 +71,14 @@ pub(crate) fn next<R: Read>(from: &mut R, buf: &mut [u8], lent: &mut [u8]) -> io
         return Ok(Taken::Cut);
     }
     let r = parts(buf);
-    let end = r.end;
-    if 65536 < end {
+    if 65536 < r.end {
         return Ok(Taken::Cut);
     }
     if r.kind == 0 {
-        return lend(from, lent, end - 8);
+        return lend(from, lent, r.end - 8);
     }
-    let got = fill(from, &mut buf[8..end])?;
-    if got < end - 8 {
+    let got = fill(from, &mut buf[8..r.end])?;
+    if got < r.end - 8 {
         return Ok(Taken::Cut);
     }
     Ok(Taken::Whole(r))

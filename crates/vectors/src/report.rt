@@ -3,7 +3,7 @@ ghost use Rattle.std.specs.Prelude.{length};
 ghost use Rattle.vectors.specs.Place.{Parts};
 
 use crate::record::Record;
-use crate::tally::{Tally, more};
+use crate::tally::{Input, Tally};
 use std::io;
 
 // The bytes of a call that writes are as it left them here.
@@ -17,15 +17,12 @@ pub(crate) fn difference(
 ) -> io::Result<()>
     requires { Parts r (length buf.now) }
 {
-    let bytes = r.bytes;
-    let want = r.want;
-    let end = r.end;
-    let record = more(before);
+    let record = before.saturating_add(1);
     let kind = r.kind;
     println!(rt; "first difference: record {record} kind {kind}")?;
-    line(rt, "call", &buf[8..bytes])?;
-    line(rt, "with", &buf[bytes..want])?;
-    line(rt, "want", &buf[want..end])?;
+    line(rt, "call", &buf[8..r.bytes])?;
+    line(rt, "with", &buf[r.bytes..r.want])?;
+    line(rt, "want", &buf[r.want..r.end])?;
     numbers(rt, ours)?;
     line(rt, "lent", lent)
 }
@@ -46,14 +43,20 @@ fn numbers(rt: &impl Print, ours: [usize; 24]) -> io::Result<()> {
     println!(rt; "")
 }
 
+// In the order of their kinds.
+const MODULES: [&str; 6] = [
+    "buffer_reader",
+    "buffer_writer",
+    "side_info",
+    "range_decoder",
+    "range_encoder",
+    "spectral_quantization",
+];
+
 pub(crate) fn report(rt: &impl Print, tally: Tally) -> io::Result<()> {
-    let cases = tally.cases;
-    module(rt, "buffer_reader", cases[0])?;
-    module(rt, "buffer_writer", cases[1])?;
-    module(rt, "side_info", cases[2])?;
-    module(rt, "range_decoder", cases[3])?;
-    module(rt, "range_encoder", cases[4])?;
-    module(rt, "spectral_quantization", cases[5])?;
+    for (name, cases) in MODULES.iter().zip(&tally.cases) {
+        module(rt, name, *cases)?;
+    }
     verdict(rt, tally)
 }
 
@@ -65,8 +68,8 @@ fn module(rt: &impl Print, name: &str, cases: u64) -> io::Result<()> {
 }
 
 fn verdict(rt: &impl Print, tally: Tally) -> io::Result<()> {
-    if tally.is_malformed {
-        let record = more(tally.records);
+    if tally.input == Input::Malformed {
+        let record = tally.records.saturating_add(1);
         println!(rt; "malformed record {record}")
     } else if tally.records == 0 {
         println!(rt; "no cases")

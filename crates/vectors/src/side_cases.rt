@@ -1,7 +1,7 @@
 // Calls of side_info: head, tail, fs_ind, duration and, for a write, the record; the bytes are the frame.
-use crate::answers::{of_buffer, refused, told};
+use crate::answers::{of_buffer, told};
 use crate::buffer_cases::{accepted, cursor};
-use crate::number::{low, word};
+use crate::number::low;
 use buffer_reader::Cursor;
 use common::configuration::Configuration;
 use side_info::fields::SideInfoError;
@@ -22,27 +22,24 @@ pub(crate) fn read(n: [usize; 24], frame: &[u8]) -> [usize; 24] {
     match side_info::reader::read(frame, cursor(n), configuration(n)) {
         SideRead::Side(side, next) => fields(side, next),
         SideRead::Refused(why) => match why {
-            SideInfoError::OutsideLimits => refused(1, 0, 0),
-            SideInfoError::BandwidthIdxOutOfRange(value) => refused(5, word(value), 0),
-            SideInfoError::LastNonZeroTupleGreaterThanYLen(lastnz, ne) => refused(
+            SideInfoError::OutsideLimits => told(&[1]),
+            SideInfoError::BandwidthIdxOutOfRange(value) => told(&[5, value as usize]),
+            SideInfoError::LastNonZeroTupleGreaterThanYLen(lastnz, ne) => told(&[
                 6,
-                word(lastnz),
+                lastnz as usize,
                 ne,
-            ),
-            SideInfoError::PlcTriggerSns1OutOfRange(joint) => refused(7, word(joint), 0),
-            SideInfoError::PlcTriggerSns2OutOfRange(joint) => refused(8, word(joint), 0),
+            ]),
+            SideInfoError::PlcTriggerSns1OutOfRange(joint) => told(&[7, joint as usize]),
+            SideInfoError::PlcTriggerSns2OutOfRange(joint) => told(&[8, joint as usize]),
             SideInfoError::Buffer(why) => of_buffer(why),
         },
     }
 }
 
 fn fields(side: SideInfo, next: Cursor) -> [usize; 24] {
-    let listed = listed(side);
-    let mut all = told(0, next.head, next.tail, 0, 0, 0);
-    let mut i = 0;
-    while i < 19 {
-        all[3 + i] = word(listed[i]);
-        i += 1;
+    let mut all = told(&[0, next.head, next.tail]);
+    for (place, field) in all[3..].iter_mut().zip(&listed(side)) {
+        *place = *field as usize;
     }
     all
 }
@@ -76,8 +73,8 @@ pub(crate) fn write(n: [usize; 24], frame: &mut [u8]) -> [usize; 24] {
     match side_info::writer::write(frame, cursor(n), configuration(n), side_of(n)) {
         SideWritten::At(next) => accepted(0, next),
         SideWritten::Refused(why) => match why {
-            SideWriteError::OutsideLimits => refused(1, 0, 0),
-            SideWriteError::FieldOutside => refused(13, 0, 0),
+            SideWriteError::OutsideLimits => told(&[1]),
+            SideWriteError::FieldOutside => told(&[13]),
             SideWriteError::Buffer(why) => of_buffer(why),
         },
     }

@@ -1,21 +1,21 @@
-// What is kept from record to record: counts, in all and by module, and how many bytes are lent.
+// What is kept from record to record: counts, in all and by module, how many bytes are lent, and whether the input goes on.
 ghost use Rattle.std.specs.Prelude.{◌≡◌};
 
-use crate::number::wide;
+#[derive(Clone, Copy, PartialEq, Eq)]
+pub(crate) enum Input {
+    Going,
+    Ended,
+    Malformed,
+}
 
-#[derive(Drop)]
+// Counts stop at the largest number, so that none can wrap.
+#[derive(Clone, Copy)]
 pub(crate) struct Tally {
     pub(crate) cases: [u64; 8],
     pub(crate) records: u64,
     pub(crate) differ: u64,
     pub(crate) lent: usize,
-    pub(crate) is_going: bool,
-    pub(crate) is_malformed: bool,
-}
-
-// Counts stop at the largest number, so that none can wrap.
-pub(crate) fn more(count: u64) -> u64 {
-    if count < u64::MAX { count + 1 } else { count }
+    pub(crate) input: Input,
 }
 
 impl Tally {
@@ -27,46 +27,41 @@ impl Tally {
             records: 0,
             differ: 0,
             lent: 0,
-            is_going: true,
-            is_malformed: false,
+            input: Input::Going,
         }
     }
 
     // The kinds of a module are sixteen.
-    pub(crate) fn counted(self, kind: u8) -> Self
+    pub(crate) fn counted(mut self, kind: u8) -> Self
         ensures { result.lent ≡ self.lent }
     {
-        let mut all = self;
-        let mut cases = all.cases;
-        let place = wide(kind) / 16 % 8;
-        cases[place] = more(cases[place]);
-        all.cases = cases;
-        all.records = more(all.records);
-        all
+        let place = usize::from(kind) / 16 % 8;
+        self.cases[place] = self.cases[place].saturating_add(1);
+        self.records = self.records.saturating_add(1);
+        self
     }
 
     pub(crate) fn differed(self, kind: u8) -> Self
         ensures { result.lent ≡ self.lent }
     {
-        let mut all = self.counted(kind);
-        all.differ = more(all.differ);
-        all
+        Self {
+            differ: self.differ.saturating_add(1),
+            ..self.counted(kind)
+        }
     }
 
     pub(crate) fn lends(self, count: usize) -> Self
         ensures { result.lent ≡ count }
     {
-        let mut all = self;
-        all.lent = count;
-        all
+        Self {
+            lent: count,
+            ..self
+        }
     }
 
-    pub(crate) fn ended(self, is_malformed: bool) -> Self
+    pub(crate) fn ended(self, input: Input) -> Self
         ensures { result.lent ≡ self.lent }
     {
-        let mut all = self;
-        all.is_going = false;
-        all.is_malformed = is_malformed;
-        all
+        Self { input, ..self }
     }
 }

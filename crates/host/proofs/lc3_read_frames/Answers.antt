@@ -9,8 +9,7 @@ use Rattle.common.specs.Configuration.{frame_lines, frame_lines_of}
 use Rattle.common.specs.Tables.{Tables}
 use Rattle.common.specs.declared.configuration.Configuration.{Configuration}
 use Rattle.common.proofs.Bools.{refuted, confirmed}
-use Rattle.common.proofs.Configurations.{frame-ranges}
-use Rattle.host.proofs.Frames.{all_fit, lines-nothing, tables-nothing, count-nothing}
+use Rattle.host.proofs.Frames.{unencoded-nothing, tables-nothing, count-nothing}
 use mathlib.Core.Bool.{not}
 use Rattle.host.proofs.lc3_read_frames.Goals as goal
 use Rattle.host.proofs.lc3_read_frames.Goals.{In-Encoded}
@@ -35,26 +34,14 @@ returns-then-lines-ne c =
     let t : Tables = (record { lookup = a.lookup.now; frequencies = a.frequencies.now; bits = a.bits.now; orders = a.orders.now; coefficients = a.coefficients.now }) in
     let p = count-nothing k t (length a.lines.now) a.bytes a.frames.now a.lines.now c.in-Encoded.ne (ne-at (goal.at.returns-then-lines-ne c).In-Encoded) (confirmed c.tables_pass.ensures (ap not c.if-not-tables_pass.false)) (lt-ltb (length a.lines.now) c.in-Encoded.ne c.if-lines-ne.true) in record { number = p.0; lent = p.1 }
 
-pub nonzero_div-count : goal.nonzero_div-count
-nonzero_div-count c =
-    let a = c.args in
-    omega (arith, (frame-ranges (record { fs_ind = a.fs_ind; duration = a.duration; reading = a.reading }) a.bytes (ne-at (goal.at.nonzero_div-count c).In-Encoded)).3)
-
 pub read_each-requires : goal.read_each-requires
 read_each-requires c =
     let a = c.args in
-    (ne-at (goal.at.read_each-requires c).In-Encoded, confirmed c.tables_pass.ensures (ap not c.if-not-tables_pass.false), omega (arith, c.if-lines-ne.false), all_fit a.frames.now a.bytes)
+    (ne-at (goal.at.read_each-requires c).In-Encoded, confirmed c.tables_pass.ensures (ap not c.if-not-tables_pass.false), omega (arith, c.if-lines-ne.false))
 
-pub returns-in-OutsideLimits : goal.returns-in-OutsideLimits
-returns-in-OutsideLimits c =
+pub returns-in_default : goal.returns-in_default
+returns-in_default c =
     let a = c.args in
     let k : Configuration = (record { fs_ind = a.fs_ind; duration = a.duration; reading = a.reading }) in
     let t : Tables = (record { lookup = a.lookup.now; frequencies = a.frequencies.now; bits = a.bits.now; orders = a.orders.now; coefficients = a.coefficients.now }) in
-    let p = lines-nothing k t (length a.lines.now) a.bytes a.frames.now a.lines.now (sym c.frame_lines.ensures ∙ ap frame_lines_of c.in-OutsideLimits.is) in record { number = p.0; lent = p.1 }
-
-pub returns-in-WrongLength : goal.returns-in-WrongLength
-returns-in-WrongLength c =
-    let a = c.args in
-    let k : Configuration = (record { fs_ind = a.fs_ind; duration = a.duration; reading = a.reading }) in
-    let t : Tables = (record { lookup = a.lookup.now; frequencies = a.frequencies.now; bits = a.bits.now; orders = a.orders.now; coefficients = a.coefficients.now }) in
-    let p = lines-nothing k t (length a.lines.now) a.bytes a.frames.now a.lines.now (sym c.frame_lines.ensures ∙ ap frame_lines_of c.in-WrongLength.is) in record { number = p.0; lent = p.1 }
+    let p = unencoded-nothing k t (length a.lines.now) a.bytes a.frames.now a.lines.now c.frame_lines.result c.frame_lines.ensures c.in_default.not-Encoded in record { number = p.0; lent = p.1 }

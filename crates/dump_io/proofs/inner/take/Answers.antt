@@ -5,6 +5,6 @@ use Rattle.dump_io.proofs.inner.take.Goals as goal
 
 pub loop-done-preserved : goal.loop-done-preserved
 loop-done-preserved g c =
-    let read = c.in-Bytes.ensures in
+    let read = c.in_ok-n.ensures in
     let before = c.loop-done.invariant in
-    (search rules, search rules, taken_more _ _ _ c.loop-done.done c.in-Bytes.n c.loop-done.buf c.more.new.buf read.front before.2 read.next.0)
+    (search rules, search rules, taken_more _ _ _ c.loop-done.done c.in_ok-n.n _ c.loop-done.buf c.read.new.buf before.0 read.bound.0 before.2 read.bytes.0)

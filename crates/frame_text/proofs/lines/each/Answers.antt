@@ -9,13 +9,10 @@ use Rattle.frame_text.proofs.lines.each.Goals as goal
 pub loop-k-init : goal.loop-k-init
 loop-k-init c = (omega arith, laying-start)
 
-pub line-next-requires : goal.line-next-requires
-line-next-requires c = (omega arith, rw (same_line _ (c.requires.2 c.loop-k.k)) (c.requires.2 c.loop-k.k))
-
 pub loop-k-preserved : goal.loop-k-preserved
 loop-k-preserved c =
     let same = same_line _ (c.requires.2 c.loop-k.k) in
     (omega arith, laying-turn (omega arith) (each_turn c.args.lines.now c.loop-k.k (omega arith) same) c.line-next.ensures.text c.line-next.auto.out c.loop-k.invariant.1)
 
-pub returns : goal.returns
-returns c = record { text = laying-end (each-end c.args.lines.now c.loop-k.k c.loop-k-test.false) c.loop-k.invariant.1; most = omega arith }
+pub returns-clause-text : goal.returns-clause-text
+returns-clause-text c = laying-end (each-end c.args.lines.now c.loop-k.k c.loop-k-test.false) c.loop-k.invariant.1

@@ -1,8 +1,7 @@
 -- Each part behind the one before it.
 -- Assumes nothing.
-use native.Mathlib.Omega.{arith}
 use Rattle.frame_text.proofs.Laid.{laid_then}
 use Rattle.frame_text.proofs.lines.sns_indices.Goals as goal
 
-pub returns : goal.returns
-returns c = record { text = laid_then (laid_then (laid_then (laid_then (laid_then c.named_u32-a.ensures.text c.named_u32-b.ensures.text) c.named_u32-c.ensures.text) c.named_u32-d.ensures.text) c.named_u32-e.ensures.text) c.named_u32.ensures.text; most = omega (arith, c.named_u32-a.ensures.most, c.named_u32-b.ensures.most, c.named_u32-c.ensures.most, c.named_u32-d.ensures.most, c.named_u32-e.ensures.most, c.named_u32.ensures.most) }
+pub returns-clause-text : goal.returns-clause-text
+returns-clause-text c = laid_then (laid_then (laid_then (laid_then (laid_then c.named-a.ensures.text c.named-b.ensures.text) c.named-c.ensures.text) c.named-d.ensures.text) c.named-e.ensures.text) c.named.ensures.text

@@ -1,8 +1,7 @@
 -- The number alone.
 -- Assumes nothing.
-use native.Mathlib.Omega.{arith}
 use Rattle.frame_text.proofs.Replies.{laid-bare}
 use Rattle.frame_text.proofs.refusals.bare.Goals as goal
 
-pub returns : goal.returns
-returns c = record { text = laid-bare _ c.named.ensures.text; most = omega arith }
+pub returns-clause-text : goal.returns-clause-text
+returns-clause-text c = laid-bare _ c.named.ensures.text

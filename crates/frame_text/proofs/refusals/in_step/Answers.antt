@@ -1,8 +1,7 @@
 -- The step behind the refusal.
 -- Assumes nothing.
-use native.Mathlib.Omega.{arith}
 use Rattle.frame_text.proofs.Laid.{laid_then}
 use Rattle.frame_text.proofs.refusals.in_step.Goals as goal
 
-pub returns : goal.returns
-returns c = record { text = laid_then c.refusal-next.ensures.text c.word.ensures.text; most = omega arith }
+pub returns-clause-text : goal.returns-clause-text
+returns-clause-text c = laid_then c.refusal-next.ensures.text c.word.ensures.text

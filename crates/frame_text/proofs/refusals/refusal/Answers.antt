@@ -1,17 +1,16 @@
 -- Each refusal has its number, and its values behind it.
 -- Assumes nothing.
-use native.Mathlib.Omega.{arith}
 use Rattle.frame_text.specs.Private.{numbers_text}
 use Rattle.frame_text.proofs.refusals.refusal.Goals as goal
 
-pub returns-in-NoTailRoom : goal.returns-in-NoTailRoom
+pub returns-in-NoTailRoom-clause-text : goal.returns-in-NoTailRoom-clause-text
 unfolding numbers_text
-returns-in-NoTailRoom c = record { text = rw c.in-NoTailRoom.is c.numbers.ensures.text; most = omega arith }
+returns-in-NoTailRoom-clause-text c = rw c.in-NoTailRoom.is c.numbers.ensures.text
 
-pub returns-in-PastEnd : goal.returns-in-PastEnd
+pub returns-in-PastEnd-clause-text : goal.returns-in-PastEnd-clause-text
 unfolding numbers_text
-returns-in-PastEnd c = record { text = rw c.in-PastEnd.is c.numbers-in-PastEnd.ensures.text; most = omega arith }
+returns-in-PastEnd-clause-text c = rw c.in-PastEnd.is c.numbers-in-PastEnd.ensures.text
 
-pub returns-in-LowBeyondLimit : goal.returns-in-LowBeyondLimit
+pub returns-in-LowBeyondLimit-clause-text : goal.returns-in-LowBeyondLimit-clause-text
 unfolding numbers_text
-returns-in-LowBeyondLimit c = record { text = rw (c.in-LowBeyondLimit.is, ← c.wide-l.ensures, ← c.wide-m.ensures) c.numbers-in-LowBeyondLimit.ensures.text; most = omega arith }
+returns-in-LowBeyondLimit-clause-text c = rw c.in-LowBeyondLimit.is c.numbers-in-LowBeyondLimit.ensures.text

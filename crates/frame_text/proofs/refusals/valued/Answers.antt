@@ -1,8 +1,7 @@
 -- The number, and its value behind it.
 -- Assumes nothing.
-use native.Mathlib.Omega.{arith}
 use Rattle.frame_text.proofs.Replies.{laid-plain}
 use Rattle.frame_text.proofs.refusals.valued.Goals as goal
 
-pub returns : goal.returns
-returns c = record { text = laid-plain _ _ c.numbers.ensures.text; most = omega arith }
+pub returns-clause-text : goal.returns-clause-text
+returns-clause-text g c = rw (← c.value.ensures) (laid-plain _ _ c.numbers.ensures.text)

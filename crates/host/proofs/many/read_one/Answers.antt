@@ -6,22 +6,16 @@ use lib.ListN.{length}
 use Rattle.common.specs.Tables.{Tables}
 use Rattle.frame_reader.specs.Frame.{read_frame}
 use Rattle.frame_reader.specs.Private.{shown}
-use Rattle.frame_reader.proofs.Whole.{read-on, judged, shown-parts}
+use Rattle.frame_reader.proofs.Whole.{read-on, shown-parts}
 use Rattle.host.specs.Many.{one_if_read}
 use Rattle.host.proofs.Frames.{read_told}
 use Rattle.host.proofs.many.read_one.Goals as goal
 
-pub read-answer-requires : goal.read-answer-requires
-read-answer-requires c =
-    let a = c.args in
-    let t : Tables = (record { lookup = a.lookup.now; frequencies = a.frequencies.now; bits = a.bits.now; orders = a.orders.now; coefficients = a.coefficients.now }) in
-    (judged a.configuration t (length a.lines.now) a.frame.now a.ne c.requires.0 c.requires.1, c.requires.2)
-
-pub returns : goal.returns
-returns c =
+pub returns-clause-number : goal.returns-clause-number
+returns-clause-number c =
     let a = c.args in
     let t : Tables = (record { lookup = a.lookup.now; frequencies = a.frequencies.now; bits = a.bits.now; orders = a.orders.now; coefficients = a.coefficients.now }) in
     let whole = read_frame a.configuration t (length a.lines.now) a.frame.now in
     let parts = shown-parts a.configuration.reading c.read-answer.result c.read-answer.new.lines a.lines.now whole
     (c.read-answer.ensures ∙ ap (λ r. shown a.configuration.reading r a.lines.now) (sym (read-on a.configuration t (length a.lines.now) a.frame.now a.ne c.requires.0 c.requires.1 (le-ltb (length a.lines.now) a.ne c.requires.2)))) in
-    record { number = c.one_if_read.ensures.number ∙ ap one_if_read parts.0 ∙ read_told a.configuration.reading whole; low = c.one_if_read.ensures.low; lent = parts.3 }
+    c.one_if_read.ensures.number ∙ ap one_if_read parts.0 ∙ read_told a.configuration.reading whole

