@@ -21,7 +21,7 @@ use Rattle.contexts.specs.Contexts.{row_of, escape_symbol, first_part, second_pa
 use Rattle.coding.specs.Coding.{Coded, Coding, done, onward, met, symbol_by, tail_bit_by}
 use Rattle.spectral_data.specs.Spectral.{Pair, Levels, low_bits, behind_escape, read_levels, read_sign, read_pair, read_pairs}
 use Rattle.spectral_data.specs.Private.{signs_by}
-use Rattle.spectral_data.proofs.Heads.{AgreeHead, Alike, Forward, Still, Any, still-done, still-onward, still-bit, forward-still, forward-onward, forward-if, forward-symbol}
+use Rattle.spectral_data.proofs.Heads.{AgreeHead, Alike, Forward, Still, Any, still-done, still-onward, still-bit, forward-still, forward-onward, forward-symbol}
 use Rattle.spectral_data.proofs.Symbols.{first_in, second_in, SameLevels, SamePair, still-behind, symbol_at, levels_on, forward-on, forward-levels, forward-pair, forward-pairs}
 use Rattle.frame_reader.specs.Depends.{symbols_of, ByTail, bit_missing}
 use Rattle.frame_reader.proofs.Heads.{only-met}

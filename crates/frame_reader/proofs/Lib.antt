@@ -1,7 +1,6 @@
 pub mod Magnitudes
 pub mod Data
 pub mod Shown
-pub mod Copies
 pub mod Coded
 pub mod Whole
 pub mod Unique

@@ -1,16 +1,16 @@
 -- What the code hands back by its arrays is what the definition says of the frame: the arrays hold the pairs' lines and levels in
 -- front and zeros behind them, so their first `ne` lines are the frame's. Assumes nothing.
-use Prim.Native.Nat.{ℕ, zero, suc, ◌+◌, ◌-◌, ◌*◌, ◌/◌, ◌≤◌, ◌<◌, min}
+use Prim.Native.Nat.{ℕ, zero, suc, ◌+◌, ◌-◌, ◌*◌, ◌/◌, ◌≤◌, min}
 use mathlib.Core.Path.{◌≡◌, refl, sym, ap, subst, ◌∙◌}
 use mathlib.Core.Bool.{Bool, true, false, cond}
 use mathlib.Core.List.{List, [], ◌∷◌, ◌++◌}
 use native.Mathlib.Omega.{arith}
-use borrow.Author.Tests.{ltb-false, eq-eqb, ne_eqb}
+use borrow.Author.Tests.{ltb-false}
 use lib.Dec.{ltb, eqb}
-use lib.ListN.{length, take, drop, get_or, replicate, length-append, length-take, length-replicate, length-drop, replicate-append-replicate}
+use lib.ListN.{length, take, drop, replicate, length-append, length-take, length-replicate, length-drop, replicate-append-replicate}
 use lib.Seq.{take_at, drop_at, take-append-add, length-take-le, get_or-take, get_or-drop}
 use lib.IntN.{ℤ, pos, nat_abs}
-use Rattle.common.specs.Reply.{Reply, Answer, accepted, refused, and_then, residual_negative}
+use Rattle.common.specs.Reply.{Answer, accepted, refused, and_then, residual_negative}
 use Rattle.common.proofs.Replies.{accepted-same, given-split}
 use Rattle.buffer_reader.specs.declared.Cursor.{Cursor}
 use Rattle.side_info.specs.declared.SideInfo.{SideInfo}
@@ -18,13 +18,12 @@ use Rattle.tns_data.specs.Tns.{Tns, sixteen_of}
 use Rattle.spectral_data.specs.Spectral.{Pair, lines_of, levels_of}
 use Rattle.spectral_data.proofs.Lines.{lines-length, levels-length}
 use Rattle.residual_data.specs.Residual.{AllLate, used_bits, available, nonzero, residual_list, escaped_by, late_from}
-use Rattle.residual_data.specs.Sums.{seed, zero_flag}
 use Rattle.residual_data.proofs.Residuals.{nonzero-most, residual-length}
 use Rattle.residual_data.specs.Private.{AtMost}
 use Rattle.residual_data.proofs.Rooms.{room_within}
 use Rattle.residual_data.proofs.Lates.{late-length, late-most}
 use Rattle.frame_reader.specs.Frame.{Data, Frame, filled_to, with_residual, with_late, finished}
-use Rattle.frame_reader.specs.Private.{Held, held_of, Shown, shown, shown_refused, shown_at, shown_late, shown_residual, shown_by, shown_finished, late_of}
+use Rattle.frame_reader.specs.Private.{Held, held_of, shown, shown_at, shown_late, shown_residual, shown_by, shown_finished, late_of}
 use Rattle.frame_reader.specs.declared.inner.Known.{Known}
 
 -- ---- zeros
@@ -49,30 +48,6 @@ filled-take ne n l size low few =
     ∙ ap (λ (ys : List ℤ). l ++ ys) (take-replicate (pos 0) (ne - length l) (400 - n) (omega arith))
 
 -- ---- an accepted frame
-
--- by the code's numbers
-pub accepted-so : (reading ne : ℕ) (known : Known) (c : Cursor) (count : ℕ) (indices bits : List ℕ) (array before exit : List ℤ) (sum : ℕ) (flag : Bool) (x y : ℤ) →
-    sum ≡ seed (take ne array) → flag ≡ zero_flag reading known.side.lastnz known.side.gain known.side.noise x y → x ≡ get_or array 0 (pos 0) → y ≡ get_or array 1 (pos 0) →
-    exit ≡ take ne array ++ replicate (length before - ne) (pos 0) →
-    record {
-      outcome =
-          accepted
-          (record {
-            side = known.side;
-            first_order = known.first_order;
-            second_order = known.second_order;
-            residual_count = count;
-            seed = sum;
-            zero = flag;
-            cursor = c;
-            range = known.range;
-          });
-      indices = indices;
-      residual = bits;
-      lines = exit;
-    }
-    ≡ shown_at reading ne known c count indices bits array before
-accepted-so reading ne known c count indices bits array before exit sum flag x y es ef ex ey el = rw (es, ef, ex, ey, el) refl
 
 module _ (reading ne : ℕ) (side : SideInfo) (tns : Tns) (range : ℕ) (before : List ℤ) (two : 2 ≤ ne) where
   abbrev known : Known
@@ -166,23 +141,6 @@ pub residual-so : (reading ne : ℕ) (f : List ℕ) (h : Held) (c : Cursor) (roo
 residual-so reading ne f h c room before count bits ec eb =
     let size : count ≡ length (residual_list f c.tail room (take ne h.lines)) = ec ∙ sym (residual-length f c.tail room (take ne h.lines)) in
     rw (eb, size) refl
-
-module _ (reading ne : ℕ) (f : List ℕ) (h : Held) (c : Cursor) (before : List ℤ) where
-  abbrev by_mode : ℕ → Bool → Shown
-  by_mode room lsb = cond lsb (shown_late reading ne f h c room before) (shown_residual reading ne f h c room before)
-
-  abbrev by : Answer ℕ → Shown
-  by a = shown_by a (λ room. by_mode room (eqb h.known.side.lsb 1)) before
-
-  pub finished-none : {r : Reply} → available (8 * length f) c h.known.range ≡ refused r → shown_refused r before ≡ shown_finished reading ne f h c before
-  finished-none e = sym (ap by e)
-
-  module _ (room : ℕ) (e : available (8 * length f) c h.known.range ≡ accepted room) where
-    pub finished-late : h.known.side.lsb ≡ 1 → shown_late reading ne f h c room before ≡ shown_finished reading ne f h c before
-    finished-late l = sym (ap by e ∙ ap (by_mode room) (eq-eqb h.known.side.lsb 1 l))
-
-    pub finished-residual : (h.known.side.lsb ≡ 1 → ⊥) → shown_residual reading ne f h c room before ≡ shown_finished reading ne f h c before
-    finished-residual l = sym (ap by e ∙ ap (by_mode room) (ne_eqb h.known.side.lsb 1 l))
 
 -- ---- what the residual stage asks
 

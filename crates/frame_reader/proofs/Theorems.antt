@@ -1,8 +1,8 @@
 -- What holds of every frame, over its definition: where a refusal stands, that used and spare are N, how long the residual list is,
 -- and how large its lines are. By what the stages say of themselves. Assumes nothing.
-use Prim.Native.Nat.{ℕ, ◌+◌, ◌-◌, ◌*◌, ◌/◌, ◌%◌, ◌≤◌, ◌<◌, min}
+use Prim.Native.Nat.{ℕ, ◌+◌, ◌-◌, ◌*◌, ◌/◌, ◌%◌, ◌≤◌, min}
 use mathlib.Core.Path.{◌≡◌, refl, sym, ap, subst, ◌∙◌}
-use mathlib.Core.Bool.{Bool, true, false, cond, not, ◌&&◌, true≢false}
+use mathlib.Core.Bool.{Bool, true, false, cond, not, true≢false}
 use mathlib.Core.List.{List, [], ◌∷◌}
 use mathlib.Core.Logic.{inl}
 use native.Mathlib.Omega.{arith}
@@ -11,9 +11,8 @@ use lib.Dec.{ltb, eqb}
 use lib.ListN.{length, get_or}
 use lib.IntN.{pos, nat_abs}
 use Rattle.common.specs.Last.{floor_log2}
-use Rattle.common.specs.Reply.{nowhere, Reply, Answer, accepted, refused, given, and_then, tables_fail, wrong_count, outside_limits, wrong_length, residual_negative}
-use Rattle.common.specs.Configuration.{configuration_passes, length_passes, frame_lines}
-use Rattle.common.specs.Configuration.{ne as lines·ne}
+use Rattle.common.specs.Reply.{nowhere, Reply, Answer, accepted, refused, given, and_then, tables_fail, wrong_count, residual_negative}
+use Rattle.common.specs.Configuration.{frame_lines}
 use Rattle.common.specs.Tables.{Tables, tables_pass}
 use Rattle.common.specs.declared.configuration.Configuration.{Configuration}
 use Rattle.common.proofs.Replies.{accepted-same, then-split, given-split}
@@ -21,7 +20,6 @@ use Rattle.common.proofs.Bools.{by-test}
 use Rattle.common.proofs.Lasts.{log-range}
 use Rattle.buffer_reader.specs.declared.Cursor.{Cursor}
 use Rattle.buffer_reader.proofs.Roomy.{Ends, ends-given, ends-then, ends-refused}
-use Rattle.side_info.specs.Reader.{read_all}
 use Rattle.side_info.proofs.Start.{lines-refusal}
 use Rattle.tns_data.proofs.Within.{TnsWithin}
 use Rattle.spectral_data.specs.Spectral.{lines_of, levels_of}
@@ -29,7 +27,7 @@ use Rattle.spectral_data.proofs.Bounds.{All, Sized}
 use Rattle.spectral_data.proofs.Lines.{even-most, odd-most, odd-few, level-few}
 use Rattle.residual_data.specs.Residual.{used_bits, available, nonzero, residual_list, escaped_by, late_from}
 use Rattle.residual_data.proofs.Residuals.{residual-length}
-use Rattle.residual_data.proofs.Lates.{late-spends, late-room}
+use Rattle.residual_data.proofs.Lates.{late-spends}
 use Rattle.frame_reader.specs.Frame.{Data, Frame, filled_to, read_data, with_residual, with_late, finished, read_frame}
 use Rattle.frame_reader.specs.Refusals.{InFrame}
 use Rattle.frame_reader.specs.Spare.{used, spare}
@@ -37,7 +35,6 @@ use Rattle.frame_reader.specs.Stated.{Listed, Magnitudes, FewEscapes, WithinSixt
 use Rattle.frame_reader.specs.Private.{read_on}
 use Rattle.frame_reader.proofs.Data.{Inside, Behind, ranges, own-in-frame, data-ends, data-behind}
 use Rattle.frame_reader.proofs.Magnitudes.{EvenPair, late-each, bounds, even-late, odd-late, odd-few-late, filled-size}
-use Rattle.frame_reader.proofs.Whole.{judged}
 
 -- ---- refusals
 
@@ -69,7 +66,7 @@ module _ (k : Configuration) (t : Tables) (count : ℕ) (f : List ℕ) where
           ends-given (InFrame k.reading) Read (not (tables_pass t)) tables_fail _ (in-no-step 3 [] (omega arith) (omega arith))
           (λ g. ends-given (InFrame k.reading) Read (ltb count n) (wrong_count count) _ (in-no-step 4 (count ∷ []) (omega arith) (omega arith))
           (λ h. ends-then (InFrame k.reading) Read (Behind k.reading k.fs_ind n f) (read_data k t (8 * length f) n f origin) _
-          (data-ends k n f t.lookup t.frequencies t.orders t.coefficients (judged k t count f n e (not-false (tables_pass t) g)))
+          (data-ends k n f t (not-false (tables_pass t) g) e)
           (λ x q b. finished-ends n x.0 x.1)))
 
   -- 1: in a whole frame 9 stands in `bit` alone, 10 and 11 in `order`, `coef` or `symbol` alone, any other in no step; all are 1 to 12,
@@ -130,13 +127,13 @@ module _ (k : Configuration) (t : Tables) (count : ℕ) (f : List ℕ) (fr : Fra
       let c = s.0.1 in
       let u = then-split (available (8 * length f) c d.range) (λ room. accepted (by_mode k.reading n f d c room (eqb d.side.lsb 1))) s.2 in
       let g = given-split (ltb (8 * length f) (used_bits c d.range)) residual_negative (accepted (8 * length f - used_bits c d.range)) u.1 in
-      let b = data-behind k n f t.lookup t.frequencies t.orders t.coefficients (judged k t count f n p.1 (not-false (tables_pass t) q.0)) s.1 in
+      let b = data-behind k n f t (not-false (tables_pass t) q.0) p.1 s.1 in
       record {
         ne = n;
         read = d;
         cursor = c;
         room = u.0;
-        short = (ranges k n f t.lookup t.frequencies t.orders t.coefficients (judged k t count f n p.1 (not-false (tables_pass t) q.0))).4;
+        short = (ranges k n f p.1).4;
         filters = b.filters;
         place = b.place;
         sized = b.sized;

@@ -6,19 +6,17 @@ use mathlib.Core.Bool.{cond}
 use mathlib.Core.List.{List}
 use lib.Dec.{eqb}
 use lib.ListN.{get_or}
-use lib.IntN.{ℤ}
-use Rattle.common.specs.Reply.{Reply, Answer, accepted, refused}
-use Rattle.common.proofs.Unique.{from_back}
+use Rattle.std.specs.Prelude.{Result}
+use Rattle.common.specs.Reply.{Reply, Answer, answer_by}
+use Rattle.common.proofs.Unique.{from_back, result-unique}
 use Rattle.coding.specs.declared.Refusal.TheVariants.{NoTailRoom, PastEnd, LowBeyondLimit}
 use Rattle.coding.specs.declared.Met.TheVariants.{Side, Start, Order, Coef, Symbol, Bit}
 use Rattle.coding.proofs.Unique.{met_back, met-back}
 use Rattle.frame_reader.specs.Frame.{Frame}
-use Rattle.frame_reader.specs.Returned.{reply_of, outcome_of, told, indices_of, residual_of}
+use Rattle.frame_reader.specs.Returned.{reply_of, told, indices_of, residual_of}
 use Rattle.frame_reader.specs.declared.Numbers.{Numbers}
 use Rattle.frame_reader.specs.declared.FrameError.{FrameError}
 use Rattle.frame_reader.specs.declared.FrameError.TheVariants.{OutsideLimits, WrongLength, TablesFail, WrongCount, BandwidthIdxOutOfRange, LastNonZeroTupleGreaterThanYLen, PlcTriggerSns1OutOfRange, PlcTriggerSns2OutOfRange, Step, FourteenEscapes, NegativeResidualNumBits}
-use Rattle.frame_reader.specs.declared.Outcome.{Outcome}
-use Rattle.frame_reader.specs.declared.Outcome.TheVariants.{Read, Refused}
 use Rattle.frame_reader.specs.declared.FrameRead.{FrameRead}
 
 -- a refusal, found again by its number, and by its step
@@ -70,25 +68,16 @@ error-back NegativeResidualNumBits = refl
 pub error-unique : (a b : FrameError) → reply_of a ≡ reply_of b → a ≡ b
 error-unique = from_back reply_of error_back error-back
 
-outcome_back : Answer Numbers → Outcome
-outcome_back (accepted n) = Read n
-outcome_back (refused r) = Refused (error_back r)
+pub outcome-unique : (a b : Result Numbers FrameError) → answer_by reply_of a ≡ answer_by reply_of b → a ≡ b
+outcome-unique = result-unique reply_of error_back error-back
 
-pub outcome-unique : (a b : Outcome) → outcome_of a ≡ outcome_of b → a ≡ b
-unfolding outcome_back
-outcome-unique = from_back outcome_of outcome_back found
-  where
-    found : (o : Outcome) → outcome_back (outcome_of o) ≡ o
-    found (Read n) = refl
-    found (Refused e) = ap Refused (error-back e)
-
-made : Outcome → List ℕ → List ℕ → FrameRead
+made : Result Numbers FrameError → List ℕ → List ℕ → FrameRead
 made o indices residual = record { outcome = o; indices = indices; residual = residual }
 
 -- two answers that keep the contract are one
 pub read-unique : (reading : ℕ) (fr : Answer Frame) (a b : FrameRead) →
-    outcome_of a.outcome ≡ told reading fr → a.indices ≡ indices_of fr → a.residual ≡ residual_of fr →
-    outcome_of b.outcome ≡ told reading fr → b.indices ≡ indices_of fr → b.residual ≡ residual_of fr →
+    answer_by reply_of a.outcome ≡ told reading fr → a.indices ≡ indices_of fr → a.residual ≡ residual_of fr →
+    answer_by reply_of b.outcome ≡ told reading fr → b.indices ≡ indices_of fr → b.residual ≡ residual_of fr →
     a ≡ b
 unfolding made
 read-unique reading fr a b oa ia ra ob ib rb =

@@ -1,18 +1,17 @@
 -- The whole frame from its parts: behind the checks what was read stands as the residual stage asks, and what the code hands back is
 -- what the definition says; and the checks 1 to 4, each by its test. Assumes nothing.
-use Prim.Native.Nat.{ℕ, zero, suc, ◌+◌, ◌-◌, ◌*◌, ◌/◌, ◌%◌, ◌≤◌, ◌<◌}
-use mathlib.Core.Path.{◌≡◌, refl, sym, ap, subst, ◌∙◌}
+use Prim.Native.Nat.{ℕ, zero, suc, ◌-◌, ◌*◌, ◌/◌, ◌≤◌}
+use mathlib.Core.Path.{◌≡◌, sym, ap, subst, ◌∙◌}
 use mathlib.Core.Bool.{Bool, true, false, not}
 use mathlib.Core.List.{List, [], ◌∷◌, ◌++◌}
 use native.Mathlib.Omega.{arith}
-use lib.Dec.{ltb, eqb}
-use lib.ListN.{length, drop, get_or, replicate, length-append, length-replicate}
+use lib.Dec.{ltb}
+use lib.ListN.{length, get_or, replicate, length-append, length-replicate}
 use lib.IntN.{ℤ, pos, nat_abs}
-use Rattle.common.specs.Reply.{Reply, Answer, accepted, refused, and_then, given, tables_fail, wrong_count}
+use Rattle.common.specs.Reply.{Reply, Answer, accepted, refused, and_then, answer_by, given, tables_fail, wrong_count}
 use Rattle.common.specs.Configuration.{frame_lines}
 use Rattle.common.specs.Tables.{Tables, tables_pass}
 use Rattle.common.specs.declared.configuration.Configuration.{Configuration}
-use Rattle.common.proofs.Sets.{lookup-passed, frequencies-passed, orders-passed, coefficients-passed}
 use Rattle.common.proofs.Replies.{accepted-same, then-split}
 use Rattle.buffer_reader.specs.declared.Cursor.{Cursor}
 use Rattle.spectral_data.specs.Spectral.{Pair, lines_of, levels_of}
@@ -20,8 +19,8 @@ use Rattle.spectral_data.proofs.Bounds.{Sized, All, none, more}
 use Rattle.spectral_data.proofs.Lines.{lines-length, levels-length}
 use Rattle.residual_data.specs.Private.{AtMost}
 use Rattle.frame_reader.specs.Frame.{Data, Frame, read_data, finished, read_frame}
-use Rattle.frame_reader.specs.Returned.{outcome_of, told, indices_of, residual_of, lines_behind}
-use Rattle.frame_reader.specs.Private.{Judged, Standing, Held, held_of, held, tables_of, read_on, Shown, shown, shown_of, shown_refused, shown_finished}
+use Rattle.frame_reader.specs.Returned.{reply_of, told, indices_of, residual_of, lines_behind}
+use Rattle.frame_reader.specs.Private.{Standing, Held, held_of, held, read_on, Shown, shown, shown_of, shown_refused, shown_finished}
 use Rattle.frame_reader.specs.declared.FrameRead.{FrameRead}
 use Rattle.frame_reader.proofs.Shown.{append-most, drop-replicate, finished-shown}
 use Rattle.frame_reader.proofs.Data.{Behind, ranges, data-behind}
@@ -46,10 +45,7 @@ lines-most (x ∷ xs) (more s rest) (suc (suc k)) = lines-most xs rest k
 
 -- ---- behind the checks
 
-module _ (k : Configuration) (ne : ℕ) (f lookup frequencies orders coefficients : List ℕ) (j : Judged k ne f lookup frequencies orders coefficients) where
-  abbrev t : Tables
-  t = tables_of lookup frequencies orders coefficients
-
+module _ (k : Configuration) (ne : ℕ) (f : List ℕ) (t : Tables) (passes : tables_pass t ≡ true) (judged : frame_lines k (length f) ≡ accepted ne) where
   abbrev origin : Cursor
   origin = record { head = 0; tail = 0 }
 
@@ -80,7 +76,7 @@ module _ (k : Configuration) (ne : ℕ) (f lookup frequencies orders coefficient
     same = accepted-same read-so.2
 
     behind : Behind k.reading k.fs_ind ne f (d, c)
-    behind = data-behind k ne f lookup frequencies orders coefficients j read-so.1
+    behind = data-behind k ne f t passes judged read-so.1
 
     abbrev n : ℕ
     n = d.side.lastnz / 2
@@ -89,10 +85,10 @@ module _ (k : Configuration) (ne : ℕ) (f lookup frequencies orders coefficient
     low = omega (arith, behind.limits.last)
 
     few : ne ≤ 400
-    few = (ranges k ne f lookup frequencies orders coefficients j).2
+    few = (ranges k ne f judged).2
 
     two : 2 ≤ ne
-    two = omega (arith, (ranges k ne f lookup frequencies orders coefficients j).1)
+    two = omega (arith, (ranges k ne f judged).1)
 
     pub on-standing : Standing ne f h.1 h.0.known.range h.0.known.side.lastnz
     on-standing =
@@ -107,7 +103,7 @@ module _ (k : Configuration) (ne : ℕ) (f lookup frequencies orders coefficient
           last = behind.limits.last;
           two = two;
           few = few;
-          short = (ranges k ne f lookup frequencies orders coefficients j).4;
+          short = (ranges k ne f judged).4;
         })
 
     pub on-most : AtMost 81919 h.0.lines
@@ -158,19 +154,8 @@ module _ (k : Configuration) (t : Tables) (count : ℕ) (f : List ℕ) where
       pub read-on : ltb count ne ≡ false → read_frame k t count f ≡ read_on k t ne f
       read-on h = behind-tables ∙ ap (λ b. given b (wrong_count count) (read_on k t ne f)) h
 
-      -- what is judged then
-      pub judged : Judged k ne f t.lookup t.frequencies t.orders t.coefficients
-      judged =
-          record {
-            lines = e;
-            looked = lookup-passed t g;
-            rows = frequencies-passed t g;
-            order_rows = orders-passed t g;
-            coefficient_rows = coefficients-passed t g;
-          }
-
 -- the four parts of what is handed back
 pub shown-parts : (reading : ℕ) (r : FrameRead) (exit before : List ℤ) (a : Answer Frame) → shown_of r exit ≡ shown reading a before →
-    (outcome_of r.outcome ≡ told reading a) × (r.indices ≡ indices_of a) × (r.residual ≡ residual_of a) × (exit ≡ lines_behind a before)
+    (answer_by reply_of r.outcome ≡ told reading a) × (r.indices ≡ indices_of a) × (r.residual ≡ residual_of a) × (exit ≡ lines_behind a before)
 shown-parts reading r exit before a e =
     (ap (λ (s : Shown). s.outcome) e, ap (λ (s : Shown). s.indices) e, ap (λ (s : Shown). s.residual) e, ap (λ (s : Shown). s.lines) e)

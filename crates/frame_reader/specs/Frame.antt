@@ -1,6 +1,6 @@
 -- The whole frame, read. Document 01, "Numbered replies": "Reading checks 1, 2, 3, 4, then frame order."
-use Rattle.std.specs.Prelude.{ℕ, ◌+◌, ◌-◌, ◌*◌, ◌/◌, Bool, cond, not, List, [], ◌∷◌, ◌++◌, ltb, eqb, length, get_or, replicate, ℤ, pos}
-use Rattle.common.specs.Reply.{start, Answer, accepted, refused, given, and_then, within, tables_fail, wrong_count}
+use Rattle.std.specs.Prelude.{ℕ, ◌+◌, ◌-◌, ◌*◌, ◌/◌, cond, not, List, [], ◌++◌, ltb, eqb, length, replicate, ℤ, pos}
+use Rattle.common.specs.Reply.{start, Answer, accepted, given, and_then, within, tables_fail, wrong_count}
 use Rattle.common.specs.Configuration.{frame_lines}
 use Rattle.common.specs.Tables.{Tables, tables_pass}
 use Rattle.common.specs.declared.configuration.Configuration.{Configuration}

@@ -1,43 +1,27 @@
 -- Not needed to believe anything: what private contracts and proofs here speak by. No public contract cites it.
-use Rattle.std.specs.Prelude.{ℕ, ◌+◌, ◌-◌, ◌*◌, ◌/◌, ◌≤◌, ◌≡◌, true, cond, List, [], ◌++◌, eqb, leb, length, take, drop, get_or, replicate, ℤ, pos}
-use Rattle.common.specs.Reply.{Reply, Answer, accepted, refused, and_then}
-use Rattle.common.specs.Configuration.{frame_lines}
-use Rattle.common.specs.Tables.{Tables, lookup_passes, part_passes}
+use Rattle.std.specs.Prelude.{Result, Ok, Err, ℕ, ◌+◌, ◌-◌, ◌*◌, ◌/◌, ◌≤◌, ◌≡◌, true, cond, List, ◌++◌, eqb, leb, length, take, drop, get_or, replicate, ℤ, pos}
+use Rattle.common.specs.Reply.{Reply, Answer, accepted, refused, and_then, answer_by}
+use Rattle.common.specs.Tables.{Tables}
 use Rattle.common.specs.declared.configuration.Configuration.{Configuration}
 use Rattle.buffer_reader.specs.Steps.{Reading, found, next}
 use Rattle.buffer_reader.specs.declared.Cursor.{Cursor}
 use Rattle.side_info.specs.declared.SideInfo.{SideInfo}
-use Rattle.range_decoder.specs.Decoder.{range_passes}
 use Rattle.range_decoder.specs.declared.DecoderState.{DecoderState}
 use Rattle.contexts.specs.Contexts.{rate_flag}
 use Rattle.tns_data.specs.Tns.{read_tns, weighting_row, sixteen_of}
 use Rattle.spectral_data.specs.Spectral.{read_pairs, lines_of, levels_of}
 use Rattle.residual_data.specs.Residual.{AllLate, available, residual_list, escaped_by, late_from}
 use Rattle.residual_data.specs.Sums.{seed, zero_flag}
-use Rattle.frame_reader.specs.Frame.{Data, Frame, start_in, read_data, finished}
-use Rattle.frame_reader.specs.Returned.{reply_of, outcome_of, told, indices_of, residual_of, lines_behind}
+use Rattle.frame_reader.specs.Frame.{Data, Frame, read_data, finished}
+use Rattle.frame_reader.specs.Returned.{reply_of, told, indices_of, residual_of, lines_behind}
+use Rattle.frame_reader.specs.declared.FrameError.{FrameError}
 use Rattle.frame_reader.specs.declared.Numbers.{Numbers}
 use Rattle.frame_reader.specs.declared.FrameRead.{FrameRead}
 use Rattle.frame_reader.specs.declared.inner.Known.{Known}
-use Rattle.frame_reader.specs.declared.inner.DataRead.{DataRead}
-use Rattle.frame_reader.specs.declared.inner.DataRead.TheVariants.{Read, Refused as DataRefused}
 
 -- a refusal by a check of the side information's own
 abbrev pub Low : Reply → Type 0
 Low r = leb r.number 8 ≡ true
-
--- what has been judged before a frame is read: configuration, length and table set
-pub record Judged (k : Configuration) (ne : ℕ) (f lookup frequencies orders coefficients : List ℕ) : Type 0 where
-  pub lines : frame_lines k (length f) ≡ accepted ne
-  pub looked : lookup_passes lookup ≡ true
-  pub rows : part_passes 64 17 frequencies ≡ true
-  pub order_rows : part_passes 2 8 orders ≡ true
-  pub coefficient_rows : part_passes 8 17 coefficients ≡ true
-
--- a table set without the bits, which no reading looks at
-abbrev pub tables_of : List ℕ → List ℕ → List ℕ → List ℕ → Tables
-tables_of lookup frequencies orders coefficients =
-    record { lookup = lookup; frequencies = frequencies; bits = []; orders = orders; coefficients = coefficients }
 
 -- what the coder reads from its start on
 abbrev pub read_coded : Configuration → Tables → ℕ → ℕ → SideInfo → DecoderState → Reading Data
@@ -71,10 +55,10 @@ held_of lines levels d =
 abbrev pub held : List ℤ → List ℕ → Answer (Data × Cursor) → Answer (Held × Cursor)
 held lines levels a = and_then a (λ r. accepted (held_of lines levels r.0, r.1))
 
-abbrev pub data_of : DataRead → List ℕ → List ℤ → List ℕ → Answer (Held × Cursor)
-data_of (Read d c) indices lines levels =
+abbrev pub data_of : Result (Known × Cursor) FrameError → List ℕ → List ℤ → List ℕ → Answer (Held × Cursor)
+data_of (Ok (d, c)) indices lines levels =
     accepted (record { known = d; indices = indices; lines = lines; levels = levels }, c)
-data_of (DataRefused e) indices lines levels = refused (reply_of e)
+data_of (Err e) indices lines levels = refused (reply_of e)
 
 -- all that a call hands back of a frame: its answer, and the lent lines behind it
 pub record Shown : Type 0 where
@@ -88,7 +72,11 @@ shown reading a before =
     record { outcome = told reading a; indices = indices_of a; residual = residual_of a; lines = lines_behind a before }
 
 abbrev pub shown_of : FrameRead → List ℤ → Shown
-shown_of r lines = record { outcome = outcome_of r.outcome; indices = r.indices; residual = r.residual; lines = lines }
+shown_of r lines = record { outcome = answer_by reply_of r.outcome; indices = r.indices; residual = r.residual; lines = lines }
+
+-- a refused frame: what is returned, and what it shows
+abbrev pub refused_by : FrameError → FrameRead
+refused_by e = record { outcome = Err e; indices = replicate 16 0; residual = replicate 400 0 }
 
 abbrev pub shown_refused : Reply → List ℤ → Shown
 shown_refused r before =

@@ -1,8 +1,6 @@
 -- What the call returns of a frame: numbers, lists, and the lines in the lent buffer.
-use Rattle.std.specs.Prelude.{ℕ, ◌-◌, Bool, List, ◌++◌, length, get_or, replicate, ℤ, pos}
+use Rattle.std.specs.Prelude.{ℕ, ◌-◌, List, ◌++◌, length, get_or, replicate, ℤ, pos}
 use Rattle.common.specs.Reply.{Reply, Answer, accepted, refused, and_then, outside_limits, wrong_length, tables_fail, wrong_count, bandwidth_too_large, lastnz_too_large, joint_too_large25, joint_too_large24, residual_negative, fourteen_escapes}
-use Rattle.buffer_reader.specs.declared.Cursor.{Cursor}
-use Rattle.side_info.specs.declared.SideInfo.{SideInfo}
 use Rattle.coding.specs.Coding.{met_of}
 use Rattle.tns_data.specs.Tns.{sixteen_of}
 use Rattle.residual_data.specs.Sums.{seed, zero_flag}
@@ -10,8 +8,6 @@ use Rattle.frame_reader.specs.Frame.{Frame, filled_to}
 use Rattle.frame_reader.specs.declared.Numbers.{Numbers}
 use Rattle.frame_reader.specs.declared.FrameError.{FrameError}
 use Rattle.frame_reader.specs.declared.FrameError.TheVariants.{OutsideLimits, WrongLength, TablesFail, WrongCount, BandwidthIdxOutOfRange, LastNonZeroTupleGreaterThanYLen, PlcTriggerSns1OutOfRange, PlcTriggerSns2OutOfRange, Step, FourteenEscapes, NegativeResidualNumBits}
-use Rattle.frame_reader.specs.declared.Outcome.{Outcome}
-use Rattle.frame_reader.specs.declared.Outcome.TheVariants.{Read, Refused}
 
 -- the numbers of an accepted frame; "Noise seed" and "Zero flag" are of the lines as returned
 abbrev pub numbers_of : ℕ → Frame → Numbers
@@ -40,10 +36,6 @@ reply_of (PlcTriggerSns2OutOfRange j) = joint_too_large24 j
 reply_of (Step m) = met_of m
 reply_of (FourteenEscapes pair) = fourteen_escapes pair
 reply_of NegativeResidualNumBits = residual_negative
-
-abbrev pub outcome_of : Outcome → Answer Numbers
-outcome_of (Read n) = accepted n
-outcome_of (Refused e) = refused (reply_of e)
 
 abbrev pub told : ℕ → Answer Frame → Answer Numbers
 told reading a = and_then a (λ fr. accepted (numbers_of reading fr))

@@ -1,68 +1,29 @@
--- `read` meets its contract: the checks 1 to 4 in their order, then the reading behind them.
--- Assumes nothing.
+-- `read` meets its contract: the checks 1 to 4 in their order, then the reading behind them. Assumes nothing.
 use mathlib.Core.Path.{◌≡◌, sym, ap, ◌∙◌}
 use native.Mathlib.Omega.{arith}
-use borrow.Author.Tests.{lt-ltb, le-ltb}
+use borrow.Author.Tests.{lt-ltb}
 use lib.ListN.{length}
-use Rattle.common.specs.Reply.{accepted}
-use Rattle.common.specs.Configuration.{frame_lines, frame_lines_of}
-use Rattle.common.specs.Tables.{Tables}
-use Rattle.common.proofs.Bools.{refuted, confirmed}
-use Rattle.frame_reader.specs.Frame.{read_frame}
-use Rattle.frame_reader.specs.Private.{shown}
-use Rattle.frame_reader.proofs.Whole.{lines-refused, tables-refused, count-refused, read-on, judged, shown-parts}
-use mathlib.Core.Bool.{not}
+use Rattle.common.specs.Reply.{accepted, answer_by}
+use Rattle.common.specs.Configuration.{frame_lines, reply_of}
+use Rattle.common.specs.TableSets.{set_of}
+use Rattle.common.specs.Tables.{tables_pass}
+use Rattle.frame_reader.specs.Returned.{residual_of}
+use Rattle.frame_reader.proofs.Whole.{tables-refused, count-refused}
 use Rattle.frame_reader.proofs.read.Goals as goal
-use Rattle.frame_reader.proofs.read.Goals.{In-Encoded}
+use Rattle.frame_reader.proofs.read.Goals.{In-Ok}
 
--- behind the checks 1 and 2
-ne-at : (c : In-Encoded) →
-    let a = c.args in
-    frame_lines a.configuration (length a.frame.now) ≡ accepted c.in-Encoded.ne
-ne-at c = sym c.frame_lines.ensures ∙ ap frame_lines_of c.in-Encoded.is
+ne-at : (c : In-Ok) → frame_lines c.args.configuration (length c.args.frame.now) ≡ accepted c.in-Ok.ne
+ne-at c = sym c.frame_lines.ensures ∙ ap (answer_by reply_of) c.in-Ok.is
 
-pub returns-then-not-tables_pass : goal.returns-then-not-tables_pass
-returns-then-not-tables_pass c =
+pub returns-in_default-clause-residual : goal.returns-in_default-clause-residual
+returns-in_default-clause-residual c =
     let a = c.args in
-    let t : Tables = (record { lookup = a.lookup.now; frequencies = a.frequencies.now; bits = a.bits.now; orders = a.orders.now; coefficients = a.coefficients.now }) in
-    let s = shown-parts a.configuration.reading c.refused-then-not-tables_pass.result a.lines.now a.lines.now (read_frame a.configuration t (length a.lines.now) a.frame.now)
-    (c.refused-then-not-tables_pass.ensures a.lines.now ∙ ap (λ r. shown a.configuration.reading r a.lines.now) (sym (tables-refused a.configuration t (length a.lines.now) a.frame.now c.in-Encoded.ne (ne-at (goal.at.returns-then-not-tables_pass c).In-Encoded) (refuted c.tables_pass.ensures (ap not c.if-not-tables_pass.true))))) in
-    record { outcome = s.0; indices = s.1; residual = s.2; lent = s.3 }
+    c.refused-in_default.ensures.residual
+    ∙ ap residual_of (sym (tables-refused a.configuration (set_of a.tables.now) (length a.lines.now) a.frame.now c.in-Ok.ne (ne-at (goal.at.returns-in_default-clause-residual c).In-Ok) c.in_default.ensures))
 
-pub returns-then-lines-ne : goal.returns-then-lines-ne
-returns-then-lines-ne c =
+pub returns-then-lines-ne-clause-residual : goal.returns-then-lines-ne-clause-residual
+returns-then-lines-ne-clause-residual c =
     let a = c.args in
-    let t : Tables = (record { lookup = a.lookup.now; frequencies = a.frequencies.now; bits = a.bits.now; orders = a.orders.now; coefficients = a.coefficients.now }) in
-    let s = shown-parts a.configuration.reading c.refused-then-lines-ne.result a.lines.now a.lines.now (read_frame a.configuration t (length a.lines.now) a.frame.now)
-    (c.refused-then-lines-ne.ensures a.lines.now ∙ ap (λ r. shown a.configuration.reading r a.lines.now) (sym (count-refused a.configuration t (length a.lines.now) a.frame.now c.in-Encoded.ne (ne-at (goal.at.returns-then-lines-ne c).In-Encoded) (confirmed c.tables_pass.ensures (ap not c.if-not-tables_pass.false)) (lt-ltb (length a.lines.now) c.in-Encoded.ne (omega (arith, c.if-lines-ne.true)))))) in
-    record { outcome = s.0; indices = s.1; residual = s.2; lent = s.3 }
-
-pub read-requires : goal.read-requires
-read-requires c =
-    let a = c.args in
-    let t : Tables = (record { lookup = a.lookup.now; frequencies = a.frequencies.now; bits = a.bits.now; orders = a.orders.now; coefficients = a.coefficients.now }) in
-    (judged a.configuration t (length a.lines.now) a.frame.now c.in-Encoded.ne (ne-at (goal.at.read-requires c).In-Encoded) (confirmed c.tables_pass.ensures (ap not c.if-not-tables_pass.false)), omega (arith, c.if-lines-ne.false))
-
-pub returns-in-OutsideLimits : goal.returns-in-OutsideLimits
-returns-in-OutsideLimits c =
-    let a = c.args in
-    let t : Tables = (record { lookup = a.lookup.now; frequencies = a.frequencies.now; bits = a.bits.now; orders = a.orders.now; coefficients = a.coefficients.now }) in
-    let s = shown-parts a.configuration.reading c.refused.result a.lines.now a.lines.now (read_frame a.configuration t (length a.lines.now) a.frame.now)
-    (c.refused.ensures a.lines.now ∙ ap (λ r. shown a.configuration.reading r a.lines.now) (sym (lines-refused a.configuration t (length a.lines.now) a.frame.now (sym c.frame_lines.ensures ∙ ap frame_lines_of c.in-OutsideLimits.is)))) in
-    record { outcome = s.0; indices = s.1; residual = s.2; lent = s.3 }
-
-pub returns-in-WrongLength : goal.returns-in-WrongLength
-returns-in-WrongLength c =
-    let a = c.args in
-    let t : Tables = (record { lookup = a.lookup.now; frequencies = a.frequencies.now; bits = a.bits.now; orders = a.orders.now; coefficients = a.coefficients.now }) in
-    let s = shown-parts a.configuration.reading c.refused-in-WrongLength.result a.lines.now a.lines.now (read_frame a.configuration t (length a.lines.now) a.frame.now)
-    (c.refused-in-WrongLength.ensures a.lines.now ∙ ap (λ r. shown a.configuration.reading r a.lines.now) (sym (lines-refused a.configuration t (length a.lines.now) a.frame.now (sym c.frame_lines.ensures ∙ ap frame_lines_of c.in-WrongLength.is)))) in
-    record { outcome = s.0; indices = s.1; residual = s.2; lent = s.3 }
-
-pub returns-else-lines-ne : goal.returns-else-lines-ne
-returns-else-lines-ne c =
-    let a = c.args in
-    let t : Tables = (record { lookup = a.lookup.now; frequencies = a.frequencies.now; bits = a.bits.now; orders = a.orders.now; coefficients = a.coefficients.now }) in
-    let s = shown-parts a.configuration.reading c.read.result c.read.new.lines a.lines.now (read_frame a.configuration t (length a.lines.now) a.frame.now)
-    (c.read.ensures ∙ ap (λ r. shown a.configuration.reading r a.lines.now) (sym (read-on a.configuration t (length a.lines.now) a.frame.now c.in-Encoded.ne (ne-at (goal.at.returns-else-lines-ne c).In-Encoded) (confirmed c.tables_pass.ensures (ap not c.if-not-tables_pass.false)) (le-ltb (length a.lines.now) c.in-Encoded.ne (omega (arith, c.if-lines-ne.false)))))) in
-    record { outcome = s.0; indices = s.1; residual = s.2; lent = s.3 }
+    let passes = ap tables_pass (sym c.in-Some.ensures) ∙ c.in-Some.passed.passed in
+    c.refused-then-lines-ne.ensures.residual
+    ∙ ap residual_of (sym (count-refused a.configuration (set_of a.tables.now) (length a.lines.now) a.frame.now c.in-Ok.ne (ne-at (goal.at.returns-then-lines-ne-clause-residual c).In-Ok) passes (lt-ltb (length a.lines.now) c.in-Ok.ne (omega (arith, c.if-lines-ne.true)))))

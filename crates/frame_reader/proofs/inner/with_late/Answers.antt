@@ -9,11 +9,6 @@ use Rattle.frame_reader.specs.Private.{Held}
 use Rattle.frame_reader.proofs.Shown.{late-so, late-array-most, late-array-length}
 use Rattle.frame_reader.proofs.inner.with_late.Goals as goal
 
-pub late_lines-tail-requires : goal.late_lines-tail-requires
-late_lines-tail-requires c =
-    let p = c.requires in
-    (omega (arith, p.0.short), p.1, omega (arith, p.0.last, p.0.few), omega (arith, p.0.last, p.0.few, p.4), omega (arith, p.0.last, p.0.few, p.3), p.5)
-
 pub accept-requires : goal.accept-requires
 accept-requires c =
     let a = c.args in
