@@ -2,46 +2,49 @@
 -- Assumes nothing.
 use Prim.Native.Nat.{ℕ, ◌+◌, ◌-◌, ◌*◌, ◌/◌, ◌≤◌}
 use mathlib.Core.Path.{◌≡◌, sym, ap, ◌∙◌}
-use mathlib.Core.Bool.{true, false}
+use mathlib.Core.Bool.{Bool, true, false, cond}
 use mathlib.Core.List.{List, ◌++◌}
 use native.Mathlib.Omega.{arith}
 use native.Mathlib.Nat.{zero-add}
 use lib.Dec.{eqb}
 use lib.IntN.{ℤ}
-use lib.ListN.{length, take, replicate}
-use lib.Seq.{sets, length-sets}
+use lib.ListN.{length, take, replicate, length-replicate}
+use Rattle.common.specs.Tables.{Tables, tables_pass}
 use Rattle.common.specs.declared.configuration.Configuration.{Configuration}
-use Rattle.side_info.specs.Record.{side_passes}
 use Rattle.side_info.specs.Layout.{side_fields, side_length, put_fields}
 use Rattle.side_info.specs.declared.SideInfo.{SideInfo}
-use Rattle.side_info.proofs.Layouts.{put-fields-length}
 use Rattle.range_encoder.specs.Encoder.{start_encoder, reserved_of}
+use Rattle.range_encoder.specs.Interval.{Sent}
 use Rattle.range_encoder.specs.Finish.{finish_bytes, finish_last, finish_bits, with_own}
 use Rattle.range_encoder.specs.Private.{Fits, Sound}
-use Rattle.range_encoder.specs.Runs.{state_behind}
+use Rattle.range_encoder.specs.Runs.{AllPass, state_behind}
 use Rattle.range_encoder.specs.Theory.{laid_behind}
 use Rattle.range_encoder.specs.declared.EncoderState.{EncoderState}
 use Rattle.sending.specs.Sending.{put_bits, laid}
-use Rattle.sending.specs.Private.{Puts, put_all, sent_all, laid_all}
+use Rattle.sending.specs.Private.{Ready, Puts, put_all, sent_all, laid_all}
 use Rattle.sending.proofs.Sends.{laid-all-length}
-use Rattle.sending.proofs.Counts.{laid-written}
+use Rattle.sending.proofs.Counts.{sent-written, laid-written}
 use Rattle.sending.proofs.Puts.{put-append}
 use Rattle.residual_data.specs.Residual.{nonzero}
 use Rattle.spectral_data.specs.Sent.{pairs_bits}
-use Rattle.frame_writer.specs.Frame.{Content, fields_bits, early_bits, late_bits, tail_bits, reserved, held_back}
-use Rattle.frame_writer.specs.Private.{Judged, Passed, tables_of, early_by, late_by, held_by}
+use Rattle.frame_writer.specs.Frame.{Content, symbols_of, fields_bits, early_bits, late_bits, tail_bits, reserved, held_back}
+use Rattle.frame_writer.specs.Private.{Judged, Passed, early_by, late_by, held_by}
 use Rattle.frame_writer.proofs.Fields.{fields-bits-length, fields-put}
-use Rattle.frame_writer.proofs.Frames.{cleared, shifts-below, tail-room, frame-laid}
-use Rattle.frame_writer.proofs.Streams.{early-length, pairs-there, symbols_in, Asked, symbols-pass, send-asked, send-behind, sound-sent}
+use Rattle.frame_writer.proofs.Frames.{shifts-below, tail-room, frame-laid}
+use Rattle.frame_writer.proofs.Streams.{early-length, pairs-there, symbols-pass, may-send, sound-sent}
 
 -- the pairs' bits counted behind the fields' length
 pub early-counted : (fs ne : ℕ) (side : SideInfo) (lines : List ℤ) (place r : ℕ) → place ≡ side_length fs ne side → r ≡ place + length (pairs_bits (eqb side.lsb 1) lines 0 (side.lastnz / 2)) → r ≡ length (early_by fs ne side lines)
 early-counted fs ne side lines place r at is =
     is ∙ ap (λ (i : ℕ). i + length (pairs_bits (eqb side.lsb 1) lines 0 (side.lastnz / 2))) at ∙ sym (early-length fs ne side lines)
 
--- and put behind the fields
-pub early-put : (fs ne : ℕ) (side : SideInfo) (lines : List ℤ) (place : ℕ) (f g h : List ℕ) → place ≡ side_length fs ne side → g ≡ put_fields f 0 (side_fields fs ne side) → h ≡ put_all true g place (pairs_bits (eqb side.lsb 1) lines 0 (side.lastnz / 2)) → h ≡ put_bits f 0 (early_by fs ne side lines)
-early-put fs ne side lines place f g h at fields pairs =
+-- what the fields leave of a frame, put where it writes
+abbrev pub fields_by : Bool → ℕ → ℕ → SideInfo → List ℕ → List ℕ
+fields_by writing fs ne side f = cond writing (put_fields f 0 (side_fields fs ne side)) f
+
+-- the pairs' bits are put behind them
+pub early-put : (writing : Bool) (fs ne : ℕ) (side : SideInfo) (lines : List ℤ) (place : ℕ) (f g h : List ℕ) → place ≡ side_length fs ne side → g ≡ fields_by writing fs ne side f → h ≡ put_all writing g place (pairs_bits (eqb side.lsb 1) lines 0 (side.lastnz / 2)) → h ≡ put_all writing f 0 (early_by fs ne side lines)
+early-put true fs ne side lines place f g h at fields pairs =
     let bits = fields_bits (side_fields fs ne side) in
     let later = pairs_bits (eqb side.lsb 1) lines 0 (side.lastnz / 2) in
     let behind : place ≡ 0 + length bits = at ∙ sym (fields-bits-length (side_fields fs ne side)) ∙ sym (zero-add (length bits)) in
@@ -49,90 +52,79 @@ early-put fs ne side lines place f g h at fields pairs =
     ap (λ (x : List ℕ). put_bits x place later) (fields ∙ fields-put f 0 (side_fields fs ne side)) ∙
     ap (λ (i : ℕ). put_bits (put_bits f 0 bits) i later) behind ∙
     sym (put-append f 0 bits later)
+early-put false fs ne side lines place f g h at fields pairs = pairs ∙ fields
 
--- where the pairs' bits may be counted, and where they may be put
-pub count-puts : (fs ne : ℕ) (side : SideInfo) (lines : List ℤ) (place : ℕ) (f : List ℕ) → length f ≤ 400 → place ≡ side_length fs ne side → length (early_by fs ne side lines) ≤ 6074 → Puts false f place (length (pairs_bits (eqb side.lsb 1) lines 0 (side.lastnz / 2)))
-count-puts fs ne side lines place f short at few =
-    record {
-      few = omega (arith, at, few, early-length fs ne side lines);
-      short = omega (arith, short);
-      room = λ e. let z : ◌≡◌ {A = ℕ} 0 1 = cc in absurd (omega arith);
-    }
-
-pub put-puts : (fs ne : ℕ) (side : SideInfo) (lines : List ℤ) (place : ℕ) (f g : List ℕ) → length f ≤ 400 → place ≡ side_length fs ne side → g ≡ put_fields f 0 (side_fields fs ne side) → length (early_by fs ne side lines) ≤ 8 * length f → Puts true g place (length (pairs_bits (eqb side.lsb 1) lines 0 (side.lastnz / 2)))
-put-puts fs ne side lines place f g short at fields room =
-    let size : length g ≡ length f = ap length fields ∙ put-fields-length f 0 (side_fields fs ne side) in
+-- where they may be
+pub early-puts : (writing : Bool) (fs ne : ℕ) (side : SideInfo) (lines : List ℤ) (place : ℕ) (f g : List ℕ) → length f ≤ 400 → place ≡ side_length fs ne side → length g ≡ length f → length (early_by fs ne side lines) ≤ 6074 → (writing ≡ true → length (early_by fs ne side lines) ≤ 8 * length f) → Puts writing g place (length (pairs_bits (eqb side.lsb 1) lines 0 (side.lastnz / 2)))
+early-puts writing fs ne side lines place f g short at size few room =
     let sum = early-length fs ne side lines in
-    record { few = omega (arith, at, room, short, sum); short = omega (arith, short, size); room = λ e. omega (arith, at, room, sum, size) }
+    record { few = omega (arith, at, few, sum); short = omega (arith, short, size); room = λ e. omega (arith, at, room e, sum, size) }
 
 -- the calls that fill a frame
-module _ (k : Configuration) (ne : ℕ) (lookup frequencies orders coefficients : List ℕ) (w : Content) (f : List ℕ) (j : Judged k ne (length f) lookup frequencies orders coefficients) (p : Passed k.fs_ind ne w) (room : length (early_bits k.fs_ind ne w) + reserved (symbols_in k ne (length f) lookup frequencies orders coefficients w) ≤ 8 * length f) where
-  pub clear-length : (g : List ℕ) → g ≡ sets f 0 (replicate (length f) 0) → length g ≡ length f
-  clear-length g is = ap length is ∙ length-sets f 0 (replicate (length f) 0)
+module _ (k : Configuration) (t : Tables) (passes : tables_pass t ≡ true) (ne : ℕ) (w : Content) (f : List ℕ) (j : Judged k ne (length f)) (p : Passed k.fs_ind ne w)
+    (room : length (early_bits k.fs_ind ne w) + reserved (symbols_of k t (8 * length f) ne w) ≤ 8 * length f) where
+  abbrev pub symbols : List Sent
+  symbols = symbols_of k t (8 * length f) ne w
 
-  -- the symbols are sent into the cleared frame
-  pub fill-sends : (g : List ℕ) (st : EncoderState) → g ≡ sets f 0 (replicate (length f) 0) → st ≡ start_encoder → Asked true st k ne (length g) lookup frequencies orders coefficients w
-  fill-sends g st clear start =
-      rw (clear-length g clear) (send-asked k ne (length f) lookup frequencies orders coefficients w j p st start (omega (arith, room)))
+  all : AllPass symbols
+  all = symbols-pass k t passes ne (length f) w j p
 
-  module _ (g : List ℕ) (st s : EncoderState) (clear : g ≡ sets f 0 (replicate (length f) 0)) (start : st ≡ start_encoder) where
-    -- the state behind the symbols
-    pub state-is : s ≡ sent_all true st (symbols_in k ne (length g) lookup frequencies orders coefficients w) → s ≡ state_behind start_encoder (symbols_in k ne (length f) lookup frequencies orders coefficients w)
-    state-is is =
-        send-behind k ne (length f) lookup frequencies orders coefficients w j p st s start
-        (is ∙ ap (λ (n : ℕ). sent_all true st (symbols_in k ne n lookup frequencies orders coefficients w)) (clear-length g clear))
+  -- the symbols are sent into the cleared frame, and the encoder's own state and bytes are behind them
+  module _ (g : List ℕ) (clear : g ≡ replicate (length f) 0) where
+    clear-length : length g ≡ length f
+    clear-length = ap length clear ∙ length-replicate (length f) 0
 
-    -- and the frame
-    pub head-is : (h : List ℕ) → h ≡ laid_all true st g (symbols_in k ne (length g) lookup frequencies orders coefficients w) → h ≡ laid_behind start_encoder (replicate (length f) 0) (symbols_in k ne (length f) lookup frequencies orders coefficients w)
+    pub send-asked : Judged k ne (length g) × Passed k.fs_ind ne w × Ready true start_encoder (length g) (symbols_of k t (8 * length g) ne w)
+    send-asked = rw clear-length (j, p, may-send k t passes ne (length f) w j p (omega (arith, room)))
+
+    pub state-is : (s : EncoderState) → s ≡ sent_all true start_encoder (symbols_of k t (8 * length g) ne w) → s ≡ state_behind start_encoder symbols
+    state-is s is =
+        is ∙
+        ap (λ (n : ℕ). sent_all true start_encoder (symbols_of k t (8 * n) ne w)) clear-length ∙
+        sent-written start_encoder symbols
+
+    pub head-is : (h : List ℕ) → h ≡ laid_all true start_encoder g (symbols_of k t (8 * length g) ne w) → h ≡ laid_behind start_encoder (replicate (length f) 0) symbols
     head-is h is =
         is ∙
-        ap (λ (n : ℕ). laid_all true st g (symbols_in k ne n lookup frequencies orders coefficients w)) (clear-length g clear) ∙
-        ap (λ (r : EncoderState). laid_all true r g (symbols_in k ne (length f) lookup frequencies orders coefficients w)) start ∙
-        ap (λ (x : List ℕ). laid_all true start_encoder x (symbols_in k ne (length f) lookup frequencies orders coefficients w)) (clear ∙ cleared f) ∙
-        laid-written start_encoder (replicate (length f) 0) (symbols_in k ne (length f) lookup frequencies orders coefficients w)
+        ap (λ (n : ℕ). laid_all true start_encoder g (symbols_of k t (8 * n) ne w)) clear-length ∙
+        ap (λ (x : List ℕ). laid_all true start_encoder x symbols) clear ∙
+        laid-written start_encoder (replicate (length f) 0) symbols
 
-    pub head-length : (h : List ℕ) → h ≡ laid_all true st g (symbols_in k ne (length g) lookup frequencies orders coefficients w) → length h ≡ length f
+    pub head-length : (h : List ℕ) → h ≡ laid_all true start_encoder g (symbols_of k t (8 * length g) ne w) → length h ≡ length f
     head-length h is =
-        ap length is ∙ laid-all-length true st g (symbols_in k ne (length g) lookup frequencies orders coefficients w) ∙ clear-length g clear
+        ap length is ∙ laid-all-length true start_encoder g (symbols_of k t (8 * length g) ne w) ∙ clear-length
 
   -- what each further call asks for
-  pub early-asked : (h : List ℕ) → length h ≡ length f → (k.fs_ind ≤ 4) × (60 ≤ ne) × (ne ≤ 400) × (length h ≤ 400) × (length w.lines ≡ ne) × (side_passes k.fs_ind ne w.side ≡ true) × (length (early_by k.fs_ind ne w.side w.lines) ≤ 8 * length h)
-  early-asked h size =
-      (j.fs-low, j.least, j.most, omega (arith, size, j.short), p.count, p.sides, omega (arith, size, room))
-
-  pub held-asked : (s : EncoderState) → s ≡ state_behind start_encoder (symbols_in k ne (length f) lookup frequencies orders coefficients w) → (Fits s) × (0x10000 ≤ s.range) × (s.out + s.held + s.pending ≤ 65535)
+  pub held-asked : (s : EncoderState) → s ≡ state_behind start_encoder symbols → (Fits s) × (0x10000 ≤ s.range) × (s.out + s.held + s.pending ≤ 65535)
   held-asked s is =
-      let sound = sound-sent k ne (length f) lookup frequencies orders coefficients w j p in
-      let below = shifts-below (symbols_in k ne (length f) lookup frequencies orders coefficients w) (symbols-pass k ne (length f) lookup frequencies orders coefficients w j p) in
+      let sound = sound-sent k t passes ne (length f) w j p in
+      let below = shifts-below symbols all in
       rw is (sound.fits, sound.range-least, omega (arith, below, room, j.short))
 
   pub late_asked : (h : List ℕ) (early held left : ℕ) → length h ≡ length f → early ≡ length (early_by k.fs_ind ne w.side w.lines) → left ≡ 8 * length f - early - held → (length h ≤ 65535) × (early + left ≤ 8 * length h) × (w.side.lastnz ≤ length w.lines) × (length w.residual ≤ nonzero w.lines)
   late_asked h early held left size is left_is =
       (omega (arith, size, j.short), omega (arith, size, is, left_is, room), omega (arith, (pairs-there k.fs_ind ne w.side j.most p.sides).2, p.count), p.few)
 
-  pub finish-asked : (s : EncoderState) (h : List ℕ) → s ≡ state_behind start_encoder (symbols_in k ne (length f) lookup frequencies orders coefficients w) → length h ≡ length f → (Sound s) × (reserved_of s ≤ 8 * length h) × (length h ≤ 65535)
+  pub finish-asked : (s : EncoderState) (h : List ℕ) → s ≡ state_behind start_encoder symbols → length h ≡ length f → (Sound s) × (reserved_of s ≤ 8 * length h) × (length h ≤ 65535)
   finish-asked s h is size =
-      rw (is, size)
-      (sound-sent k ne (length f) lookup frequencies orders coefficients w j p, omega (arith, room), omega (arith, j.short))
+      rw (is, size) (sound-sent k t passes ne (length f) w j p, omega (arith, room), omega (arith, j.short))
 
   -- the frame behind all calls
   pub filled : (s : EncoderState) (early held left : ℕ) (h h' h'' last : List ℕ) →
-      s ≡ state_behind start_encoder (symbols_in k ne (length f) lookup frequencies orders coefficients w) →
-      h ≡ laid_behind start_encoder (replicate (length f) 0) (symbols_in k ne (length f) lookup frequencies orders coefficients w) →
+      s ≡ state_behind start_encoder symbols →
+      h ≡ laid_behind start_encoder (replicate (length f) 0) symbols →
       early ≡ length (early_by k.fs_ind ne w.side w.lines) →
       h' ≡ put_bits h 0 (early_by k.fs_ind ne w.side w.lines) →
       held ≡ held_by k.reading s →
       left ≡ 8 * length f - early - held →
       h'' ≡ put_bits h' early (take left (late_by w.side w.lines w.residual)) →
       last ≡ with_own h'' s.out (finish_bytes k.reading s) (finish_last k.reading s) (finish_bits k.reading s) →
-      last ≡ laid k.reading (length f) (symbols_in k ne (length f) lookup frequencies orders coefficients w) (tail_bits k (tables_of lookup frequencies orders coefficients) (8 * length f) ne w)
+      last ≡ laid k.reading (length f) symbols (tail_bits k t (8 * length f) ne w)
   filled s early held left h h' h'' last state head count put held-is left_is late finish =
-      let xs = symbols_in k ne (length f) lookup frequencies orders coefficients w in
-      let all = symbols-pass k ne (length f) lookup frequencies orders coefficients w j p in
-      let b = state_behind start_encoder xs in
+      let b = state_behind start_encoder symbols in
       let before = early_bits k.fs_ind ne w in
-      let zeros = laid_behind start_encoder (replicate (length f) 0) xs in
-      let cut = 8 * length f - length before - held_back k.reading xs in
+      let zeros = laid_behind start_encoder (replicate (length f) 0) symbols in
+      let cut = 8 * length f - length before - held_back k.reading symbols in
       let cut-is : left ≡ cut =
       left_is ∙ ap (λ (e : ℕ). 8 * length f - e - held) count ∙ ap (λ (n : ℕ). 8 * length f - length before - n) (held-is ∙ ap (held_by k.reading) state) in
       let tail : h'' ≡ put_bits zeros 0 (before ++ take cut (late_bits w)) =
@@ -144,4 +136,4 @@ module _ (k : Configuration) (ne : ℕ) (lookup frequencies orders coefficients 
       finish ∙
       ap (λ (r : EncoderState). with_own h'' r.out (finish_bytes k.reading r) (finish_last k.reading r) (finish_bits k.reading r)) state ∙
       ap (λ (x : List ℕ). with_own x b.out (finish_bytes k.reading b) (finish_last k.reading b) (finish_bits k.reading b)) tail ∙
-      frame-laid xs all k.reading (length f) (before ++ take cut (late_bits w)) (tail-room xs all k.reading (8 * length f) before (late_bits w) room)
+      frame-laid symbols all k.reading (length f) (before ++ take cut (late_bits w)) (tail-room symbols all k.reading (8 * length f) before (late_bits w) room)

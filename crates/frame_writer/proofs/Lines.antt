@@ -11,12 +11,10 @@ use native.Mathlib.Numerals.{add-one}
 use borrow.Author.Tests.{le-leb, ltb-false}
 use lib.Dec.{ltb, leb}
 use lib.IntN.{ℤ, pos}
-use lib.ListN.{length, get_or, get_or-eq_default}
+use lib.ListN.{length, get_or-eq_default}
 use Rattle.common.proofs.Bools.{by-test, or-fails-second, and-first-holds}
-use Rattle.contexts.specs.Contexts.{magnitudes}
 use Rattle.contexts.specs.First.{first_from}
 use Rattle.contexts.specs.Lines.{magnitude_at}
-use Rattle.contexts.proofs.Magnitudes.{magnitude-read}
 use Rattle.frame_writer.specs.Private.{fails_at}
 
 module _ (holds : ℕ → Bool) (n k : ℕ) (l : k < n) where
@@ -53,10 +51,9 @@ first-none holds k (suc n) e i a b =
     (eq-or-lt_of_le a))
 
 -- the test of a line by the numbers that the code has
-pub fails-told : (lines : List ℤ) (lastnz k m : ℕ) (r : Bool) → m ≡ get_or (magnitudes lines) k 0 → r ≡ (ltb 32767 m || leb lastnz k && ltb 0 m) → fails_at lines lastnz k ≡ r
+pub fails-told : (lines : List ℤ) (lastnz k m : ℕ) (r : Bool) → m ≡ magnitude_at lines k → r ≡ (ltb 32767 m || leb lastnz k && ltb 0 m) → fails_at lines lastnz k ≡ r
 fails-told lines lastnz k m r value judged =
-    let e : m ≡ magnitude_at lines k = value ∙ magnitude-read lines k in
-    sym (judged ∙ ap (λ (x : ℕ). ltb 32767 x || leb lastnz k && ltb 0 x) e)
+    sym (judged ∙ ap (λ (x : ℕ). ltb 32767 x || leb lastnz k && ltb 0 x) value)
 
 -- a line that does not fail is within 32,767
 pub kept-most : (lines : List ℤ) (lastnz k : ℕ) → fails_at lines lastnz k ≡ false → magnitude_at lines k ≤ 32767

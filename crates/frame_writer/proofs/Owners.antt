@@ -19,7 +19,6 @@ use Rattle.common.specs.declared.configuration.Configuration.{Configuration}
 use Rattle.common.proofs.Bools.{by-test, and_right}
 use Rattle.common.proofs.Configurations.{frame-known}
 use Rattle.common.proofs.Replies.{accepted-same, given-split, then-split}
-use Rattle.common.proofs.Sets.{lookup-passed, frequencies-passed, orders-passed, coefficients-passed}
 use Rattle.contexts.specs.Lines.{magnitude_at}
 use Rattle.side_info.specs.Record.{side_passes}
 use Rattle.buffer_reader.specs.Tail.{tail_bit}
@@ -231,9 +230,7 @@ lines-zero w h k l m =
 
 pub symbols-given : (k : Configuration) (t : Tables) (bits n : ℕ) (w : Content) → tables_pass t ≡ true → fields_pass k.fs_ind n w ≡ true → Modest w.lines → AllPass (symbols_of k t bits n w)
 symbols-given k t bits n w tables fields modest =
-    content-passes k t bits n w (lookup-passed t tables) (frequencies-passed t tables) (orders-passed t tables) (coefficients-passed t tables)
-    (and_right (side_passes k.fs_ind n w.side) (tns_passes w.side.tns_first w.side.tns_second w.first w.second w.indices) fields)
-    modest
+    content-passes k t bits n w tables (and_right (side_passes k.fs_ind n w.side) (tns_passes w.side.tns_first w.side.tns_second w.first w.second w.indices) fields) modest
 
 -- ---- the theorem
 

@@ -1,6 +1,6 @@
 -- Issue 13's second theorem, `taken`: what the reader returns passes the writer's checks. The stages that read it took the bits and the
 -- symbols that its record, filters and pairs have when they are written, so what passed 12 passes 16. Assumes nothing.
-use Prim.Native.Nat.{ℕ, zero, suc, ◌+◌, ◌-◌, ◌*◌, ◌/◌, ◌≤◌, ◌<◌}
+use Prim.Native.Nat.{ℕ, ◌+◌, ◌-◌, ◌*◌, ◌/◌, ◌≤◌, ◌<◌}
 use mathlib.Core.Path.{◌≡◌, refl, sym, ap, subst, ◌∙◌}
 use mathlib.Core.Bool.{Bool, true, false, cond, not, ◌&&◌}
 use mathlib.Core.List.{List, ◌++◌}
@@ -63,7 +63,6 @@ use Rattle.frame_reader.specs.Stated.{Listed}
 use Rattle.frame_reader.proofs.Data.{Behind, data-behind, weighting-most}
 use Rattle.frame_reader.proofs.Magnitudes.{EvenPair}
 use Rattle.frame_reader.proofs.Theorems.{residual-listed, lines-within, within-sixteen, few-escapes}
-use Rattle.frame_reader.proofs.Whole.{judged}
 use Rattle.frame_writer.specs.Frame.{Content, symbols_of, fields_bits, least_bit, early_bits, reserved, tail_bits, fields_pass, line_fails, first_failing, write_frame}
 use Rattle.frame_writer.specs.Taken.{content_of, FewInCrate, SameEscapes, StandardLate, Taken}
 use Rattle.frame_writer.proofs.Fields.{fields-bits-length}
@@ -380,7 +379,7 @@ module _ (k : Configuration) (t : Tables) (count : ℕ) (f : List ℕ) (x : Fram
       let s = then-split (read_data k t (8 * length f) n f origin) (λ d. finished k.reading n f d.0 d.1) checked.3 in
       let u = then-split (available (8 * length f) s.0.1 s.0.0.range) (λ room. accepted (by_mode k.reading n f s.0 room (eqb s.0.0.side.lsb 1))) s.2 in
       let g = given-split (ltb (8 * length f) (used_bits s.0.1 s.0.0.range)) residual_negative (accepted (8 * length f - used_bits s.0.1 s.0.0.range)) u.1 in
-      let known = data-behind k n f t.lookup t.frequencies t.orders t.coefficients (judged k t count f n lines tables) s.1 in
+      let known = data-behind k n f t tables lines s.1 in
       subst (Parts k t f n) (ap (λ (room : ℕ). by_mode k.reading n f s.0 room (eqb s.0.0.side.lsb 1)) (accepted-same g.1) ∙ accepted-same u.2)
       (data-made k t f n lines tables s.0 s.1 known (ltb-false (8 * length f) (used_bits s.0.1 s.0.0.range) g.0) (eqb s.0.0.side.lsb 1) refl)
 

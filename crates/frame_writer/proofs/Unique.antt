@@ -1,15 +1,14 @@
 -- What the contract says decides the answer: every refusal by its number and value. Assumes nothing.
-use mathlib.Core.Path.{◌≡◌, refl}
+use mathlib.Core.Path.{◌≡◌, refl, ap}
 use mathlib.Core.Bool.{cond}
 use lib.Dec.{eqb}
 use lib.ListN.{get_or}
+use Rattle.std.specs.Prelude.{Result, Ok, Err}
 use Rattle.common.specs.Reply.{Reply, Answer, accepted, refused}
 use Rattle.common.proofs.Unique.{from_back}
-use Rattle.frame_writer.specs.Returned.{written_of}
+use Rattle.frame_writer.specs.Returned.{reply_of, written_of}
 use Rattle.frame_writer.specs.declared.WriteError.{WriteError}
 use Rattle.frame_writer.specs.declared.WriteError.TheVariants.{OutsideLimits, WrongLength, TablesFail, WrongCount, FieldOutside, LineOutside, ResidualTooLong, NoRoom}
-use Rattle.frame_writer.specs.declared.FrameWritten.{FrameWritten}
-use Rattle.frame_writer.specs.declared.FrameWritten.TheVariants.{Written, Refused}
 
 unfoldable pub error_back : Reply → WriteError
 error_back r =
@@ -22,21 +21,25 @@ error_back r =
     (cond (eqb r.number 14) (LineOutside value)
     (cond (eqb r.number 15) ResidualTooLong NoRoom))))))
 
-written_back : Answer (Unit {0}) → FrameWritten
-written_back (accepted a) = Written
-written_back (refused r) = Refused (error_back r)
+error-back : (e : WriteError) → error_back (reply_of e) ≡ e
+unfolding error_back
+error-back OutsideLimits = refl
+error-back (WrongLength len) = refl
+error-back TablesFail = refl
+error-back (WrongCount count) = refl
+error-back FieldOutside = refl
+error-back (LineOutside place) = refl
+error-back ResidualTooLong = refl
+error-back NoRoom = refl
 
-written-found : (r : FrameWritten) → written_back (written_of r) ≡ r
-unfolding error_back written_back
-written-found Written = refl
-written-found (Refused OutsideLimits) = refl
-written-found (Refused (WrongLength len)) = refl
-written-found (Refused TablesFail) = refl
-written-found (Refused (WrongCount count)) = refl
-written-found (Refused FieldOutside) = refl
-written-found (Refused (LineOutside place)) = refl
-written-found (Refused ResidualTooLong) = refl
-written-found (Refused NoRoom) = refl
+written_back : Answer (Unit {0}) → Result (Unit {0}) WriteError
+written_back (accepted u) = Ok u
+written_back (refused r) = Err (error_back r)
 
-pub written-unique : (a b : FrameWritten) → written_of a ≡ written_of b → a ≡ b
+written-found : (r : Result (Unit {0}) WriteError) → written_back (written_of r) ≡ r
+unfolding written_back
+written-found (Ok u) = refl
+written-found (Err e) = ap Err (error-back e)
+
+pub written-unique : (a b : Result (Unit {0}) WriteError) → written_of a ≡ written_of b → a ≡ b
 written-unique = from_back written_of written_back written-found

@@ -4,13 +4,13 @@ use Prim.Native.Nat.{ℕ, ◌-◌, ◌/◌}
 use mathlib.Core.Path.{◌≡◌, refl}
 use mathlib.Core.Bool.{true}
 use lib.ListN.{length, take}
-use Rattle.common.specs.Tables.{Tables, lookup_passes, part_passes}
+use Rattle.common.specs.Tables.{Tables, tables_pass}
 use Rattle.common.specs.declared.configuration.Configuration.{Configuration}
 use Rattle.common.proofs.Bools.{by-test}
+use Rattle.common.proofs.Sets.{lookup-passed, frequencies-passed, orders-passed, coefficients-passed}
 use Rattle.contexts.specs.Contexts.{rate_flag}
 use Rattle.side_info.specs.Layout.{side_fields}
 use Rattle.range_encoder.specs.Runs.{AllPass}
-use Rattle.sending.specs.Sending.{residual}
 use Rattle.sending.specs.Private.{AllBits}
 use Rattle.sending.proofs.Sends.{pass-append}
 use Rattle.sending.proofs.Stands.{bits-append, take-bits-low}
@@ -28,13 +28,12 @@ use Rattle.frame_writer.proofs.Fields.{fields-bits-low}
 
 -- ---- the symbols for the head
 
-pub content-passes : (k : Configuration) (t : Tables) (bits n : ℕ) (w : Content) → lookup_passes t.lookup ≡ true → part_passes 64 17 t.frequencies ≡ true → part_passes 2 8 t.orders ≡ true → part_passes 8 17 t.coefficients ≡ true →
-    tns_passes w.side.tns_first w.side.tns_second w.first w.second w.indices ≡ true → Modest w.lines → AllPass (symbols_of k t bits n w)
-content-passes k t bits n w looked rows order_rows coefficient_rows filters modest =
+pub content-passes : (k : Configuration) (t : Tables) (bits n : ℕ) (w : Content) → tables_pass t ≡ true → tns_passes w.side.tns_first w.side.tns_second w.first w.second w.indices ≡ true → Modest w.lines → AllPass (symbols_of k t bits n w)
+content-passes k t bits n w passes filters modest =
     let weighting = weighting_row k.duration bits in
     pass-append (sent_tns t.orders t.coefficients weighting (tns_of w.first w.second w.indices)) _
-    (tns-all-pass t.orders t.coefficients weighting order_rows coefficient_rows (weighting-most weighting k.duration bits refl) w.side.tns_first w.side.tns_second w.first w.second w.indices filters)
-    (pairs-all-pass t.lookup t.frequencies looked rows (rate_flag bits k.fs_ind) n w.lines modest 0 (w.side.lastnz / 2) 0)
+    (tns-all-pass t.orders t.coefficients weighting (orders-passed t passes) (coefficients-passed t passes) (weighting-most weighting k.duration bits refl) w.side.tns_first w.side.tns_second w.first w.second w.indices filters)
+    (pairs-all-pass t.lookup t.frequencies (lookup-passed t passes) (frequencies-passed t passes) (rate_flag bits k.fs_ind) n w.lines modest 0 (w.side.lastnz / 2) 0)
 
 -- ---- the bits for the tail
 

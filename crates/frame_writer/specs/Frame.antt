@@ -1,5 +1,5 @@
 -- The whole frame, written. Document 01, "Numbered replies": "Writing checks 1, 2, 3, 4, 13, 14, 15, 16".
-use Rattle.std.specs.Prelude.{ℕ, zero, suc, ◌+◌, ◌-◌, ◌*◌, ◌/◌, ◌%◌, Bool, cond, not, ◌&&◌, ◌||◌, List, [], ◌∷◌, ◌++◌, ltb, leb, eqb, length, take, ℤ, pos, nat_abs}
+use Rattle.std.specs.Prelude.{ℕ, zero, suc, ◌+◌, ◌-◌, ◌*◌, ◌/◌, ◌%◌, Bool, cond, not, ◌&&◌, ◌||◌, List, [], ◌∷◌, ◌++◌, ltb, leb, eqb, length, take, ℤ}
 use Rattle.common.specs.Reply.{Answer, accepted, given, and_then, tables_fail, wrong_count, field_outside, line_outside, residual_too_long, no_room}
 use Rattle.common.specs.Configuration.{frame_lines}
 use Rattle.common.specs.Tables.{Tables, tables_pass}

@@ -1,34 +1,31 @@
 -- Not needed to believe anything: what private contracts and proofs here speak by. No public contract cites it.
-use Rattle.std.specs.Prelude.{ℕ, ◌+◌, ◌*◌, ◌/◌, ◌≤◌, ◌≡◌, Bool, true, not, cond, ◌&&◌, ◌||◌, List, [], ◌++◌, ltb, leb, eqb, ℤ, length}
+use Rattle.std.specs.Prelude.{ℕ, ◌+◌, ◌*◌, ◌/◌, ◌≤◌, ◌≡◌, Bool, true, not, cond, ◌&&◌, ◌||◌, List, ◌++◌, ltb, leb, eqb, ℤ, length}
 use Rattle.common.specs.Reply.{Answer, accepted, given, field_outside, line_outside, residual_too_long, no_room}
-use Rattle.common.specs.Tables.{Tables, lookup_passes, part_passes}
+use Rattle.common.specs.Tables.{Tables}
+use Rattle.common.specs.declared.configuration.ConfigurationError.{ConfigurationError}
+use Rattle.common.specs.declared.configuration.ConfigurationError.TheVariants.{OutsideLimits as ConfigurationOutside, WrongLength as ConfigurationLength}
+use Rattle.frame_writer.specs.declared.WriteError.{WriteError}
+use Rattle.frame_writer.specs.declared.WriteError.TheVariants.{OutsideLimits, WrongLength}
 use Rattle.common.specs.declared.configuration.Configuration.{Configuration}
-use Rattle.contexts.specs.Contexts.{rate_flag}
 use Rattle.contexts.specs.Lines.{magnitude_at}
 use Rattle.side_info.specs.Record.{side_passes}
 use Rattle.side_info.specs.Layout.{side_fields}
 use Rattle.side_info.specs.declared.SideInfo.{SideInfo}
 use Rattle.range_encoder.specs.Encoder.{reserved_of, forecast_of}
-use Rattle.range_encoder.specs.Interval.{Sent}
 use Rattle.range_encoder.specs.declared.EncoderState.{EncoderState}
 use Rattle.sending.specs.Sending.{Bit, laid}
-use Rattle.tns_data.specs.Tns.{weighting_row}
-use Rattle.tns_data.specs.Sent.{sent_tns, tns_of, tns_passes}
-use Rattle.spectral_data.specs.Sent.{sent_pairs, pairs_bits}
+use Rattle.tns_data.specs.Sent.{tns_passes}
+use Rattle.spectral_data.specs.Sent.{pairs_bits}
 use Rattle.residual_data.specs.Residual.{nonzero}
 use Rattle.residual_data.specs.Sent.{residual_bits, late_pairs}
 use Rattle.frame_writer.specs.Frame.{Content, symbols_of, fields_bits, early_bits, tail_bits, reserved, fields_pass, first_failing}
 
--- what has been judged before a frame is written: configuration, length and table set
-pub record Judged (k : Configuration) (ne n : ℕ) (lookup frequencies orders coefficients : List ℕ) : Type 0 where
+-- what has been judged before a frame is written: configuration and length
+pub record Judged (k : Configuration) (ne n : ℕ) : Type 0 where
   pub fs-low : k.fs_ind ≤ 4
   pub least : 60 ≤ ne
   pub most : ne ≤ 400
   pub short : n ≤ 400
-  pub looked : lookup_passes lookup ≡ true
-  pub rows : part_passes 64 17 frequencies ≡ true
-  pub order_rows : part_passes 2 8 orders ≡ true
-  pub coefficient_rows : part_passes 8 17 coefficients ≡ true
 
 -- and of what is written: 4, 13, 14 and 15
 pub record Passed (fs ne : ℕ) (w : Content) : Type 0 where
@@ -39,21 +36,12 @@ pub record Passed (fs ne : ℕ) (w : Content) : Type 0 where
   pub modest : (k : ℕ) → magnitude_at w.lines k ≤ 32767
   pub few : length w.residual ≤ nonzero w.lines
 
--- a table set without the bits, which no writing looks at
-abbrev pub tables_of : List ℕ → List ℕ → List ℕ → List ℕ → Tables
-tables_of lookup frequencies orders coefficients =
-    record { lookup = lookup; frequencies = frequencies; bits = []; orders = orders; coefficients = coefficients }
+-- what each error from below says here
+abbrev pub of_configuration : ConfigurationError → WriteError
+of_configuration ConfigurationOutside = OutsideLimits
+of_configuration (ConfigurationLength len) = WrongLength len
 
-abbrev pub content_of : SideInfo → ℕ → ℕ → List ℕ → List ℤ → List ℕ → Content
-content_of side first second indices lines residual =
-    record { side = side; first = first; second = second; indices = indices; lines = lines; residual = residual }
-
--- each stream by what the code hands over for it
-abbrev pub symbols_by : Configuration → Tables → ℕ → ℕ → ℕ → ℕ → List ℕ → List ℤ → ℕ → List Sent
-symbols_by k t bits ne first second indices lines pairs =
-    sent_tns t.orders t.coefficients (weighting_row k.duration bits) (tns_of first second indices) ++
-    sent_pairs t.lookup t.frequencies (rate_flag bits k.fs_ind) ne lines 0 pairs 0
-
+-- the bits before what comes late, and these, by what the code hands over for them
 abbrev pub early_by : ℕ → ℕ → SideInfo → List ℤ → List Bit
 early_by fs ne side lines =
     fields_bits (side_fields fs ne side) ++ pairs_bits (eqb side.lsb 1) lines 0 (side.lastnz / 2)

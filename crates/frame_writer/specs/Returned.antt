@@ -1,10 +1,10 @@
 -- What the call answers, and what the lent frame holds behind it: a refused call changes nothing.
-use Rattle.std.specs.Prelude.{List, ℕ}
+use Rattle.std.specs.Prelude.{Result, Ok, Err, List, ℕ}
 use Rattle.common.specs.Reply.{Reply, Answer, accepted, refused, and_then, outside_limits, wrong_length, tables_fail, wrong_count, field_outside, line_outside, residual_too_long, no_room}
+use Rattle.frame_writer.specs.Frame.{Content}
+use Rattle.frame_writer.specs.declared.Content.{Content as Lent}
 use Rattle.frame_writer.specs.declared.WriteError.{WriteError}
 use Rattle.frame_writer.specs.declared.WriteError.TheVariants.{OutsideLimits, WrongLength, TablesFail, WrongCount, FieldOutside, LineOutside, ResidualTooLong, NoRoom}
-use Rattle.frame_writer.specs.declared.FrameWritten.{FrameWritten}
-use Rattle.frame_writer.specs.declared.FrameWritten.TheVariants.{Written, Refused}
 
 -- document 01's number and values of each refusal
 abbrev pub reply_of : WriteError → Reply
@@ -17,10 +17,15 @@ reply_of (LineOutside place) = line_outside place
 reply_of ResidualTooLong = residual_too_long
 reply_of NoRoom = no_room
 
+-- what is lent to be written
+abbrev pub content_of : Lent → Content
+content_of w =
+    record { side = w.side; first = w.first_order; second = w.second_order; indices = w.indices; lines = w.lines.now; residual = w.residual.now }
+
 -- nothing is told of a frame but that it is written
-abbrev pub written_of : FrameWritten → Answer (Unit {0})
-written_of Written = accepted tt
-written_of (Refused e) = refused (reply_of e)
+abbrev pub written_of : Result (Unit {0}) WriteError → Answer (Unit {0})
+written_of (Ok u) = accepted tt
+written_of (Err e) = refused (reply_of e)
 
 abbrev pub told : Answer (List ℕ) → Answer (Unit {0})
 told a = and_then a (λ f. accepted tt)

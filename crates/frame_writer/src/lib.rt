@@ -2,12 +2,15 @@
 #![tactic(auto)]
 
 ghost use Rattle.std.specs.Prelude.{◌≡◌, length};
+ghost use Rattle.common.specs.TableSets.{set_of};
 ghost use Rattle.frame_writer.specs.Frame.{write_frame};
-ghost use Rattle.frame_writer.specs.Returned.{written_of, told, frame_behind};
+ghost use Rattle.frame_writer.specs.Returned.{content_of, written_of, told, frame_behind};
+ghost use Rattle.frame_writer.specs.Private.{of_configuration};
 
 pub mod inner;
 
-use common::configuration::{Configuration, FrameLines};
+use common::configuration::{Configuration, ConfigurationError};
+use common::table_set::TableSet;
 use side_info::SideInfo;
 
 // Why a frame is not written, with the numbers of document 01.
@@ -23,56 +26,42 @@ pub enum WriteError {
     NoRoom,
 }
 
-#[derive(Clone, Copy)]
-pub enum FrameWritten {
-    Written,
-    Refused(WriteError),
+impl From<ConfigurationError> for WriteError {
+    ghost from_gives = { λ e w. w ≡ of_configuration e };
+
+    fn from(e: ConfigurationError) -> WriteError {
+        match e {
+            ConfigurationError::OutsideLimits => WriteError::OutsideLimits,
+            ConfigurationError::WrongLength(len) => WriteError::WrongLength(len),
+        }
+    }
+}
+
+// What is written: the side information, both filters, the lines and the residual bits.
+#[derive(Drop)]
+pub struct Content<'a> {
+    pub side: SideInfo,
+    pub first_order: usize,
+    pub second_order: usize,
+    pub indices: [usize; 16],
+    pub lines: &'a [i16],
+    pub residual: &'a [u8],
 }
 
 // Writes a frame of 20 to 400 bytes into the lent one. Refused, it is as it was.
 pub fn write(
     configuration: Configuration,
-    lookup: &[u8],
-    frequencies: &[u16],
-    bits: &[u16],
-    orders: &[u16],
-    coefficients: &[u16],
-    side: SideInfo,
-    first_order: usize,
-    second_order: usize,
-    indices: [usize; 16],
-    lines: &[i16],
-    residual: &[u8],
+    tables: &TableSet,
+    content: &Content,
     frame: &mut [u8],
-) -> FrameWritten
-    ensures answer { written_of result ≡ told (write_frame configuration (record { lookup = lookup.entry.now; frequencies = frequencies.now; bits = bits.now; orders = orders.now; coefficients = coefficients.now }) (record { side = side; first = first_order; second = second_order; indices = indices; lines = lines.now; residual = residual.now }) (length frame.old)) }
-    ensures lent { frame.new ≡ frame_behind (write_frame configuration (record { lookup = lookup.entry.now; frequencies = frequencies.now; bits = bits.now; orders = orders.now; coefficients = coefficients.now }) (record { side = side; first = first_order; second = second_order; indices = indices; lines = lines.now; residual = residual.now }) (length frame.old)) frame.old }
+) -> Result<(), WriteError>
+    ensures answer { written_of result ≡ told (write_frame configuration (set_of tables.now) (content_of content.now) (length frame.old)) }
+    ensures lent { frame.new ≡ frame_behind (write_frame configuration (set_of tables.now) (content_of content.now) (length frame.old)) frame.old }
 {
-    match configuration.frame_lines(frame.len()) {
-        FrameLines::OutsideLimits => FrameWritten::Refused(WriteError::OutsideLimits),
-        FrameLines::WrongLength(len) => FrameWritten::Refused(WriteError::WrongLength(len)),
-        FrameLines::Encoded(ne) => {
-            if !common::tables::tables_pass(lookup, frequencies, bits, orders, coefficients) {
-                return FrameWritten::Refused(WriteError::TablesFail);
-            }
-            if lines.len() != ne {
-                return FrameWritten::Refused(WriteError::WrongCount(lines.len()));
-            }
-            inner::write(
-                configuration,
-                ne,
-                lookup,
-                frequencies,
-                orders,
-                coefficients,
-                side,
-                first_order,
-                second_order,
-                indices,
-                lines,
-                residual,
-                frame,
-            )
-        }
+    let ne = configuration.frame_lines(frame.len())?;
+    let passed = tables.passed().ok_or(WriteError::TablesFail)?;
+    if content.lines.len() != ne {
+        return Err(WriteError::WrongCount(content.lines.len()));
     }
+    inner::write(configuration, ne, &passed, content, frame)
 }

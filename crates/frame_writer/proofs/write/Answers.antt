@@ -1,60 +1,36 @@
--- `write` meets its contract: the checks 1 to 4 in their order, then the writing behind them.
+-- `write` meets its contract: behind 1 to 3 the set that is handed on is the one that was lent, and 4 and the writing behind it follow.
 -- Assumes nothing.
-use mathlib.Core.Path.{◌≡◌, refl, sym, ap, ◌∙◌}
+use mathlib.Core.Path.{◌≡◌, refl, sym, ap, subst, ◌∙◌}
+use mathlib.Core.Bool.{true}
 use lib.ListN.{length}
-use Rattle.common.specs.Reply.{accepted, outside_limits, wrong_length, tables_fail, wrong_count}
-use Rattle.common.specs.Configuration.{frame_lines, frame_lines_of}
-use Rattle.common.specs.Tables.{Tables}
-use Rattle.common.proofs.Bools.{refuted, confirmed}
+use Rattle.common.specs.Reply.{wrong_count}
+use Rattle.common.specs.TableSets.{set_of, passed_of}
+use Rattle.common.specs.Tables.{Tables, tables_pass}
 use Rattle.frame_writer.specs.Frame.{write_frame}
-use Rattle.frame_writer.specs.Returned.{written_of}
-use Rattle.frame_writer.specs.Private.{content_of, tables_of, write_on}
-use Rattle.frame_writer.proofs.Answers.{refusing, answering, lines-refused, tables-refused, count-refused, frame_on, judged}
-use borrow.Author.Rules.{rules}
-use mathlib.Core.Bool.{not}
+use Rattle.frame_writer.specs.Returned.{content_of, written_of}
+use Rattle.frame_writer.specs.Private.{write_on}
+use Rattle.frame_writer.proofs.Answers.{refusing, answering, count-refused, frame_on}
 use Rattle.frame_writer.proofs.write.Goals as goal
-use Rattle.frame_writer.proofs.write.Goals.{In-Encoded, Start}
+use Rattle.frame_writer.proofs.write.Goals.{In_ok-passed}
 
--- the array of indices has its places
-sixteen : (c : Start) → length c.args.indices ≡ 16
-sixteen c = search rules
+-- the set that passes is the one that was lent
+same : (c : In_ok-passed) → passed_of c.in_ok-passed.passed ≡ set_of c.args.tables.now
+same c = rw c.in_ok-passed.ensures.ok_part at c.passed.ensures
 
--- behind the checks 1 and 2
-ne-at : (c : In-Encoded) → frame_lines c.args.configuration (length c.args.frame.now) ≡ accepted c.in-Encoded.ne
-ne-at c = sym c.frame_lines.ensures ∙ ap frame_lines_of c.in-Encoded.is
+passes : (c : In_ok-passed) → tables_pass (set_of c.args.tables.now) ≡ true
+passes c = subst (λ (t : Tables). tables_pass t ≡ true) (same c) c.in_ok-passed.passed.passed
 
-pub returns-then-not-tables_pass : goal.returns-then-not-tables_pass
-returns-then-not-tables_pass c =
+pub returns-then-content-ne : goal.returns-then-content-ne
+returns-then-content-ne c =
     let a = c.args in
-    let t : Tables = (record { lookup = a.lookup.now; frequencies = a.frequencies.now; bits = a.bits.now; orders = a.orders.now; coefficients = a.coefficients.now }) in
-    let p = refusing tables_fail a.frame.now a.frame.now (write_frame a.configuration t (content_of a.side a.first_order a.second_order a.indices a.lines.now a.residual.now) (length a.frame.now)) (tables-refused a.configuration t (content_of a.side a.first_order a.second_order a.indices a.lines.now a.residual.now) (length a.frame.now) c.in-Encoded.ne (ne-at (goal.at.returns-then-not-tables_pass c).In-Encoded) (refuted c.tables_pass.ensures (ap not c.if-not-tables_pass.true))) refl in record { answer = p.0; lent = p.1 }
+    let w = content_of a.content.now in
+    let n = length a.frame.now in
+    let p = refusing (wrong_count (length w.lines)) a.frame.now a.frame.now (write_frame a.configuration (set_of a.tables.now) w n) (count-refused a.configuration (set_of a.tables.now) w n c.in_ok-ne.ne (sym c.in_ok-ne.ensures) (passes (goal.at.returns-then-content-ne c).In_ok-passed) c.if-content-ne.true) refl in record { answer = p.0; lent = p.1 }
 
-pub returns-then-lines-ne : goal.returns-then-lines-ne
-returns-then-lines-ne c =
+pub returns : goal.returns
+returns c =
     let a = c.args in
-    let t : Tables = (record { lookup = a.lookup.now; frequencies = a.frequencies.now; bits = a.bits.now; orders = a.orders.now; coefficients = a.coefficients.now }) in
-    let p = refusing (wrong_count (length a.lines.now)) a.frame.now a.frame.now (write_frame a.configuration t (content_of a.side a.first_order a.second_order a.indices a.lines.now a.residual.now) (length a.frame.now)) (count-refused a.configuration t (content_of a.side a.first_order a.second_order a.indices a.lines.now a.residual.now) (length a.frame.now) c.in-Encoded.ne (ne-at (goal.at.returns-then-lines-ne c).In-Encoded) (confirmed c.tables_pass.ensures (ap not c.if-not-tables_pass.false)) c.if-lines-ne.true) refl in record { answer = p.0; lent = p.1 }
-
-pub write-requires : goal.write-requires
-write-requires c =
-    let a = c.args in
-    let t : Tables = (record { lookup = a.lookup.now; frequencies = a.frequencies.now; bits = a.bits.now; orders = a.orders.now; coefficients = a.coefficients.now }) in
-    (judged a.configuration t (content_of a.side a.first_order a.second_order a.indices a.lines.now a.residual.now) (length a.frame.now) c.in-Encoded.ne (ne-at (goal.at.write-requires c).In-Encoded) (confirmed c.tables_pass.ensures (ap not c.if-not-tables_pass.false)), c.if-lines-ne.false, sixteen (goal.at.write-requires c).Start)
-
-pub returns-in-OutsideLimits : goal.returns-in-OutsideLimits
-returns-in-OutsideLimits c =
-    let a = c.args in
-    let t : Tables = (record { lookup = a.lookup.now; frequencies = a.frequencies.now; bits = a.bits.now; orders = a.orders.now; coefficients = a.coefficients.now }) in
-    let p = refusing outside_limits a.frame.now a.frame.now (write_frame a.configuration t (content_of a.side a.first_order a.second_order a.indices a.lines.now a.residual.now) (length a.frame.now)) (lines-refused a.configuration t (content_of a.side a.first_order a.second_order a.indices a.lines.now a.residual.now) (length a.frame.now) (sym c.frame_lines.ensures ∙ ap frame_lines_of c.in-OutsideLimits.is)) refl in record { answer = p.0; lent = p.1 }
-
-pub returns-in-WrongLength : goal.returns-in-WrongLength
-returns-in-WrongLength c =
-    let a = c.args in
-    let t : Tables = (record { lookup = a.lookup.now; frequencies = a.frequencies.now; bits = a.bits.now; orders = a.orders.now; coefficients = a.coefficients.now }) in
-    let p = refusing (wrong_length c.in-WrongLength.len) a.frame.now a.frame.now (write_frame a.configuration t (content_of a.side a.first_order a.second_order a.indices a.lines.now a.residual.now) (length a.frame.now)) (lines-refused a.configuration t (content_of a.side a.first_order a.second_order a.indices a.lines.now a.residual.now) (length a.frame.now) (sym c.frame_lines.ensures ∙ ap frame_lines_of c.in-WrongLength.is)) refl in record { answer = p.0; lent = p.1 }
-
-pub returns-else-lines-ne : goal.returns-else-lines-ne
-returns-else-lines-ne c =
-    let a = c.args in
-    let t : Tables = (record { lookup = a.lookup.now; frequencies = a.frequencies.now; bits = a.bits.now; orders = a.orders.now; coefficients = a.coefficients.now }) in
-    let p = answering (written_of c.write.result) c.write.new.frame a.frame.now (write_frame a.configuration t (content_of a.side a.first_order a.second_order a.indices a.lines.now a.residual.now) (length a.frame.now)) (write_on a.configuration (tables_of a.lookup.now a.frequencies.now a.orders.now a.coefficients.now) c.in-Encoded.ne (content_of a.side a.first_order a.second_order a.indices a.lines.now a.residual.now) (length a.frame.now)) (frame_on a.configuration t (content_of a.side a.first_order a.second_order a.indices a.lines.now a.residual.now) (length a.frame.now) c.in-Encoded.ne (ne-at (goal.at.returns-else-lines-ne c).In-Encoded) (confirmed c.tables_pass.ensures (ap not c.if-not-tables_pass.false)) c.if-lines-ne.false) (c.write.ensures.answer, c.write.ensures.lent) in record { answer = p.0; lent = p.1 }
+    let w = content_of a.content.now in
+    let n = length a.frame.now in
+    let on = frame_on a.configuration (set_of a.tables.now) w n c.in_ok-ne.ne (sym c.in_ok-ne.ensures) (passes (goal.at.returns c).In_ok-passed) c.if-content-ne.false ∙ ap (λ (t : Tables). write_on a.configuration t c.in_ok-ne.ne w n) (sym (same (goal.at.returns c).In_ok-passed)) in
+    let p = answering (written_of c.write.result) c.write.new.frame a.frame.now (write_frame a.configuration (set_of a.tables.now) w n) (write_on a.configuration (passed_of c.in_ok-passed.passed) c.in_ok-ne.ne w n) on (c.write.ensures.answer, c.write.ensures.lent) in record { answer = p.0; lent = p.1 }

@@ -1,15 +1,16 @@
 -- `inner::write_fitting` meets its contract: both streams are counted, 16 is judged by E, and where there is room the frame is filled.
 -- Assumes nothing.
-use Prim.Native.Nat.{◌≤◌}
-use mathlib.Core.Path.{◌≡◌, ap, ◌∙◌}
+use Prim.Native.Nat.{◌*◌, ◌≤◌}
+use mathlib.Core.Path.{◌≡◌, ◌∙◌}
 use native.Mathlib.Omega.{arith}
 use lib.ListN.{length}
+use Rattle.common.specs.TableSets.{passed_of}
 use Rattle.common.proofs.Lasts.{log-range}
 use Rattle.range_encoder.specs.Encoder.{shifts_of, reserved_of}
 use Rattle.range_encoder.specs.Private.{Fits}
-use Rattle.frame_writer.specs.Frame.{reserved}
-use Rattle.frame_writer.specs.Private.{content_of}
-use Rattle.frame_writer.proofs.Streams.{symbols_in, early-length, early-few, count-asked-at, count-behind-at}
+use Rattle.frame_writer.specs.Frame.{symbols_of, reserved}
+use Rattle.frame_writer.specs.Returned.{content_of}
+use Rattle.frame_writer.proofs.Streams.{early-few, count-asked-at, count-behind-at}
 use Rattle.frame_writer.proofs.Answers.{counted-keeps, refused-room, fill-asked, frame-filled}
 use Rattle.frame_writer.proofs.inner.write_fitting.Goals as goal
 use Rattle.frame_writer.proofs.inner.write_fitting.Goals.{After-send_symbols-st}
@@ -18,22 +19,19 @@ use Rattle.frame_writer.proofs.inner.write_fitting.Goals.{After-send_symbols-st}
 kept : (c : After-send_symbols-st) → c.send_symbols-st.new.buf ≡ c.args.frame.now
 kept c =
     let a = c.args in
-    counted-keeps a.configuration a.ne a.lookup.now a.frequencies.now a.orders.now a.coefficients.now (content_of a.side a.first_order a.second_order a.indices a.lines.now a.residual.now) c.ac_enc_init.result a.frame.now c.count_early-early.new.buf c.send_symbols-st.new.buf c.count_early-early.ensures.lent c.send_symbols-st.ensures.lent
+    counted-keeps a.configuration (passed_of a.tables.now) a.ne (content_of a.content.now) a.frame.now c.put_early-early.new.buf c.send_symbols-st.new.buf c.put_early-early.ensures.lent c.send_symbols-st.ensures.lent
 
-counted : (c : After-send_symbols-st) → let a = c.args in (Fits c.send_symbols-st.result) × (0x10000 ≤ c.send_symbols-st.result.range) × (shifts_of c.send_symbols-st.result ≤ 65535) × (reserved_of c.send_symbols-st.result ≡ reserved (symbols_in a.configuration a.ne (length a.frame.now) a.lookup.now a.frequencies.now a.orders.now a.coefficients.now (content_of a.side a.first_order a.second_order a.indices a.lines.now a.residual.now)))
+counted : (c : After-send_symbols-st) → let a = c.args in (Fits c.send_symbols-st.result) × (0x10000 ≤ c.send_symbols-st.result.range) × (shifts_of c.send_symbols-st.result ≤ 65535) × (reserved_of c.send_symbols-st.result ≡ reserved (symbols_of a.configuration (passed_of a.tables.now) (8 * length a.frame.now) a.ne (content_of a.content.now)))
 counted c =
     let a = c.args in
     let p = c.requires in
-    count-behind-at a.configuration a.ne a.lookup.now a.frequencies.now a.orders.now a.coefficients.now (content_of a.side a.first_order a.second_order a.indices a.lines.now a.residual.now) a.frame.now c.count_early-early.new.buf p.0 p.1 c.count_early-early.ensures.lent c.ac_enc_init.result c.send_symbols-st.result c.ac_enc_init.ensures c.send_symbols-st.ensures.state
+    count-behind-at a.configuration (passed_of a.tables.now) a.tables.now.passed a.ne (content_of a.content.now) a.frame.now c.put_early-early.new.buf p.0 p.1 c.put_early-early.ensures.lent c.send_symbols-st.result c.send_symbols-st.ensures.state
 
 pub send_symbols-st-requires : goal.send_symbols-st-requires
 send_symbols-st-requires c =
     let a = c.args in
     let p = c.requires in
-    count-asked-at a.configuration a.ne a.lookup.now a.frequencies.now a.orders.now a.coefficients.now (content_of a.side a.first_order a.second_order a.indices a.lines.now a.residual.now) a.frame.now c.count_early-early.new.buf p.0 p.1 c.count_early-early.ensures.lent c.ac_enc_init.result c.ac_enc_init.ensures
-
-pub overflow_mul-frame : goal.overflow_mul-frame
-overflow_mul-frame c = omega (arith, c.requires.0.short, ap length (kept (goal.at.overflow_mul-frame c).After-send_symbols-st))
+    count-asked-at a.configuration (passed_of a.tables.now) a.tables.now.passed a.ne (content_of a.content.now) a.frame.now c.put_early-early.new.buf p.0 p.1 c.put_early-early.ensures.lent
 
 pub reserved_bits-requires : goal.reserved_bits-requires
 reserved_bits-requires c = let n = counted (goal.at.reserved_bits-requires c).After-send_symbols-st in (n.0, n.1, n.2)
@@ -42,22 +40,24 @@ pub overflow_add-early : goal.overflow_add-early
 overflow_add-early c =
     let a = c.args in
     let p = c.requires in
-    let few = early-few a.configuration.fs_ind a.ne a.side a.lines.now p.0.fs-low p.0.least p.0.most p.1.sides in
+    let side = a.content.now.side in
+    let lines = a.content.now.lines.now in
+    let few = early-few a.configuration.fs_ind a.ne side lines p.0.fs-low p.0.least p.0.most p.1.sides in
     let n = counted (goal.at.overflow_add-early c).After-send_symbols-st in
-    omega (arith, few, early-length a.configuration.fs_ind a.ne a.side a.lines.now, c.count_early-early.ensures.count, c.reserved_bits.ensures, n.2, log-range c.send_symbols-st.result.range n.1 n.0.range-fits)
+    omega (arith, few, c.put_early-early.ensures.count, c.reserved_bits.ensures, n.2, log-range c.send_symbols-st.result.range n.1 n.0.range-fits)
 
 pub returns-then-frame-early : goal.returns-then-frame-early
 returns-then-frame-early c =
     let a = c.args in
-    let p = refused-room a.configuration a.ne a.lookup.now a.frequencies.now a.orders.now a.coefficients.now (content_of a.side a.first_order a.second_order a.indices a.lines.now a.residual.now) a.frame.now c.send_symbols-st.new.buf c.count_early-early.result c.reserved_bits.result (kept (goal.at.returns-then-frame-early c).After-send_symbols-st) c.count_early-early.ensures.count (c.reserved_bits.ensures ∙ (counted (goal.at.returns-then-frame-early c).After-send_symbols-st).3) c.if-frame-early.true in record { answer = p.0; lent = p.1 }
+    let p = refused-room a.configuration (passed_of a.tables.now) a.ne (content_of a.content.now) a.frame.now c.send_symbols-st.new.buf c.put_early-early.result c.reserved_bits.result (kept (goal.at.returns-then-frame-early c).After-send_symbols-st) c.put_early-early.ensures.count (c.reserved_bits.ensures ∙ (counted (goal.at.returns-then-frame-early c).After-send_symbols-st).3) c.if-frame-early.true in record { answer = p.0; lent = p.1 }
 
 pub fill-requires : goal.fill-requires
 fill-requires c =
     let a = c.args in
     let p = c.requires in
-    fill-asked a.configuration a.ne a.lookup.now a.frequencies.now a.orders.now a.coefficients.now (content_of a.side a.first_order a.second_order a.indices a.lines.now a.residual.now) a.frame.now c.send_symbols-st.new.buf c.count_early-early.result c.reserved_bits.result (kept (goal.at.fill-requires c).After-send_symbols-st) c.count_early-early.ensures.count (c.reserved_bits.ensures ∙ (counted (goal.at.fill-requires c).After-send_symbols-st).3) c.if-frame-early.false p.0 p.1
+    fill-asked a.configuration (passed_of a.tables.now) a.ne (content_of a.content.now) a.frame.now c.send_symbols-st.new.buf c.put_early-early.result c.reserved_bits.result (kept (goal.at.fill-requires c).After-send_symbols-st) c.put_early-early.ensures.count (c.reserved_bits.ensures ∙ (counted (goal.at.fill-requires c).After-send_symbols-st).3) c.if-frame-early.false p.0 p.1
 
 pub returns : goal.returns
 returns c =
     let a = c.args in
-    let p = frame-filled a.configuration a.ne a.lookup.now a.frequencies.now a.orders.now a.coefficients.now (content_of a.side a.first_order a.second_order a.indices a.lines.now a.residual.now) a.frame.now c.send_symbols-st.new.buf c.count_early-early.result c.reserved_bits.result (kept (goal.at.returns c).After-send_symbols-st) c.count_early-early.ensures.count (c.reserved_bits.ensures ∙ (counted (goal.at.returns c).After-send_symbols-st).3) c.if-frame-early.false c.fill.new.frame c.fill.ensures in record { answer = p.0; lent = p.1 }
+    let p = frame-filled a.configuration (passed_of a.tables.now) a.ne (content_of a.content.now) a.frame.now c.send_symbols-st.new.buf c.put_early-early.result c.reserved_bits.result (kept (goal.at.returns c).After-send_symbols-st) c.put_early-early.ensures.count (c.reserved_bits.ensures ∙ (counted (goal.at.returns c).After-send_symbols-st).3) c.if-frame-early.false c.fill.new.frame c.fill.ensures in record { answer = p.0; lent = p.1 }
