@@ -3,6 +3,7 @@
 
 ghost use Rattle.std.specs.Prelude.{◌≡◌, length};
 ghost use Rattle.std.proofs.lemmas.List.Edits.{sets};
+ghost use Rattle.common.specs.TableSets.{set_of};
 ghost use Rattle.frame_reader.specs.Frame.{read_frame};
 ghost use Rattle.frame_text.specs.Text.{text_of, end_text, stop_text};
 
@@ -12,37 +13,24 @@ mod put;
 mod refusals;
 
 use common::configuration::Configuration;
-use frame_reader::Outcome;
+use common::table_set::TableSet;
 
 // Reads a frame and lays its text over the lent buffer from its front, as far as the buffer is long; answers the text's length.
 pub fn lay(
     number: usize,
     configuration: Configuration,
-    lookup: &[u8],
-    frequencies: &[u16],
-    bits: &[u16],
-    orders: &[u16],
-    coefficients: &[u16],
+    tables: &TableSet,
     frame: &[u8],
     out: &mut [u8],
 ) -> usize
-    ensures size { result ≡ length (text_of number configuration frame.now (read_frame configuration (record { lookup = lookup.entry.now; frequencies = frequencies.now; bits = bits.now; orders = orders.now; coefficients = coefficients.now }) 400 frame.now)) }
-    ensures lent { out.new ≡ sets out.old 0 (text_of number configuration frame.now (read_frame configuration (record { lookup = lookup.entry.now; frequencies = frequencies.now; bits = bits.now; orders = orders.now; coefficients = coefficients.now }) 400 frame.now)) }
+    ensures size { result ≡ length (text_of number configuration frame.now (read_frame configuration (set_of tables.now) 400 frame.now)) }
+    ensures lent { out.new ≡ sets out.old 0 (text_of number configuration frame.now (read_frame configuration (set_of tables.now) 400 frame.now)) }
 {
     let mut values = [0; 400];
-    let answer = frame_reader::read(
-        configuration,
-        lookup,
-        frequencies,
-        bits,
-        orders,
-        coefficients,
-        frame,
-        &mut values,
-    );
+    let answer = frame_reader::read(configuration, tables, frame, &mut values);
     match answer.outcome {
-        Outcome::Refused(e) => refusals::line(out, number, e),
-        Outcome::Read(n) => accepted::nine(
+        Err(e) => refusals::line(out, number, e),
+        Ok(n) => accepted::nine(
             out,
             number,
             configuration.reading,
