@@ -74,10 +74,6 @@ shown reading a before =
 abbrev pub shown_of : FrameRead → List ℤ → Shown
 shown_of r lines = record { outcome = answer_by reply_of r.outcome; indices = r.indices; residual = r.residual; lines = lines }
 
--- a refused frame: what is returned, and what it shows
-abbrev pub refused_by : FrameError → FrameRead
-refused_by e = record { outcome = Err e; indices = replicate 16 0; residual = replicate 400 0 }
-
 abbrev pub shown_refused : Reply → List ℤ → Shown
 shown_refused r before =
     record { outcome = refused r; indices = replicate 16 0; residual = replicate 400 0; lines = before }

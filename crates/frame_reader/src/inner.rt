@@ -199,10 +199,9 @@ fn accept(
         cursor: at,
         range: known.range,
     };
-    let sixteen = *indices;
     FrameRead {
         outcome: Ok(numbers),
-        indices: sixteen,
+        indices: *indices,
         residual: bits,
     }
 }
@@ -226,10 +225,7 @@ fn with_late(
     let side = known.side;
     let pairs = side.lastnz as usize / 2;
     let tail = residual_data::inner::late_lines(buf, at.tail, room, reading, levels, pairs, held);
-    let last = Cursor {
-        head: at.head,
-        tail,
-    };
+    let last = Cursor { tail, ..at };
     accept(reading, ne, known, last, 0, indices, [0; 400], held, lines)
 }
 
@@ -251,8 +247,8 @@ fn with_residual(
     let mut bits = [0; 400];
     let count = residual_data::inner::residual_bits(buf, at.tail, room, held, ne, &mut bits);
     let last = Cursor {
-        head: at.head,
         tail: at.tail + count,
+        ..at
     };
     accept(reading, ne, known, last, count, indices, bits, held, lines)
 }
