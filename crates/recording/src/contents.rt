@@ -26,7 +26,7 @@ pub fn configuration_of(content: &[u8]) -> Configuration
 pub fn take_bytes(content: &[u8], out: &mut [u8])
     ensures { out.new ≡ sets out.old 0 content.now }
 {
-    common::inner::lay_bytes(out, content);
+    common::inner::lay(out, content);
 }
 
 // A table's 16-bit numbers.

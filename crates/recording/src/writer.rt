@@ -1,6 +1,8 @@
 // A frame's field, written: the frame goes straight into the part of the lent buffer behind its three header bytes.
 ghost use Rattle.std.specs.Prelude.{◌≡◌, ◌+◌, ◌/◌, ◌%◌, ◌≤◌, [], ◌∷◌, length};
 ghost use Rattle.std.proofs.lemmas.List.Edits.{sets};
+ghost use Rattle.common.specs.TableSets.{set_of};
+ghost use Rattle.frame_writer.specs.Returned.{content_of};
 ghost use Rattle.recording.specs.Tagged.{tag_frame};
 ghost use Rattle.recording.specs.Writer.{write_field, buffer_behind, written_of, end_behind};
 ghost use Rattle.recording.specs.declared.writer.FieldWriteError.TheVariants.{Frame};
@@ -8,8 +10,8 @@ ghost use Rattle.recording.specs.declared.writer.FieldWriteError.TheVariants.{Fr
 use crate::reader::FIELD_MOST;
 use crate::tags;
 use common::configuration::Configuration;
-use frame_writer::{FrameWritten, WriteError};
-use side_info::SideInfo;
+use common::table_set::TableSet;
+use frame_writer::{Content, WriteError};
 
 #[derive(Clone, Copy)]
 pub enum FieldWriteError {
@@ -40,45 +42,18 @@ pub fn write_frame(
     offset: usize,
     bytes: usize,
     configuration: Configuration,
-    lookup: &[u8],
-    frequencies: &[u16],
-    bits: &[u16],
-    orders: &[u16],
-    coefficients: &[u16],
-    side: SideInfo,
-    first_order: usize,
-    second_order: usize,
-    indices: [usize; 16],
-    lines: &[i16],
-    residual: &[u8],
+    tables: &TableSet,
+    content: &Content,
 ) -> Result<usize, FieldWriteError>
-    ensures answer { written_of result ≡ end_behind (write_field configuration (record { lookup = lookup.entry.now; frequencies = frequencies.now; bits = bits.now; orders = orders.now; coefficients = coefficients.now }) (record { side = side; first = first_order; second = second_order; indices = indices; lines = lines.now; residual = residual.now }) bytes (length buffer.old) offset) offset }
-    ensures lent { buffer.new ≡ buffer_behind (write_field configuration (record { lookup = lookup.entry.now; frequencies = frequencies.now; bits = bits.now; orders = orders.now; coefficients = coefficients.now }) (record { side = side; first = first_order; second = second_order; indices = indices; lines = lines.now; residual = residual.now }) bytes (length buffer.old) offset) offset buffer.old }
+    ensures answer { written_of result ≡ end_behind (write_field configuration (set_of tables.now) (content_of content.now) bytes (length buffer.old) offset) offset }
+    ensures lent { buffer.new ≡ buffer_behind (write_field configuration (set_of tables.now) (content_of content.now) bytes (length buffer.old) offset) offset buffer.old }
 {
     if FIELD_MOST < bytes || !crate::reader::within(offset, 3 + bytes, buffer.len()) {
         return Err(FieldWriteError::NoPlace(offset));
     }
     let at = offset + 3;
     let end = at + bytes;
-    match frame_writer::write(
-        configuration,
-        lookup,
-        frequencies,
-        bits,
-        orders,
-        coefficients,
-        side,
-        first_order,
-        second_order,
-        indices,
-        lines,
-        residual,
-        &mut buffer[at..end],
-    ) {
-        FrameWritten::Refused(e) => Err(FieldWriteError::Frame(e)),
-        FrameWritten::Written => {
-            put_header(buffer, offset, bytes);
-            Ok(end)
-        }
-    }
+    frame_writer::write(configuration, tables, content, &mut buffer[at..end])?;
+    put_header(buffer, offset, bytes);
+    Ok(end)
 }

@@ -9,26 +9,15 @@ use lib.Dec.{leb}
 use lib.ListN.{length}
 use borrow.Author.Tests.{le-leb, leb-true}
 use borrow.Rule.Slice.PartMut.{mid_of, mid_len}
-use Rattle.common.specs.Tables.{Tables}
 use Rattle.common.proofs.Bools.{confirmed}
-use Rattle.frame_writer.specs.Frame.{Content}
-use Rattle.frame_writer.specs.Returned.{written_of}
+use Rattle.common.specs.TableSets.{set_of}
+use Rattle.std.proofs.lemmas.Result.{err_from_is_err_and}
+use Rattle.frame_writer.specs.Returned.{content_of}
 use Rattle.recording.specs.Tagged.{field_most}
 use Rattle.recording.proofs.Fields.{frame_refused, frame-written}
 use mathlib.Core.Bool.{not}
 use Rattle.recording.proofs.writer.write_frame.Goals as goal
 use Rattle.recording.proofs.writer.write_frame.Goals.{Else-not-within, Start}
-
--- the tables and the content that are lent
-abbrev tables : Start → Tables
-tables c =
-    let a = c.args in
-    record { lookup = a.lookup.now; frequencies = a.frequencies.now; bits = a.bits.now; orders = a.orders.now; coefficients = a.coefficients.now }
-
-abbrev content : Start → Content
-content c =
-    let a = c.args in
-    record { side = a.side; first = a.first_order; second = a.second_order; indices = a.indices; lines = a.lines.now; residual = a.residual.now }
 
 -- behind both tests the frame is not longer than a field may be, and the field lies within the buffer
 short : (c : Else-not-within) → leb c.args.bytes field_most ≡ true
@@ -48,14 +37,17 @@ size c =
     let a = c.args in
     mid_len (a.offset + 3) (a.offset + 3 + a.bytes) a.buffer.now (omega (arith, leb-true _ _ (within c))) ∙ omega arith
 
-pub returns-in-Refused : goal.returns-in-Refused
-returns-in-Refused c =
+pub returns-in_err-write : goal.returns-in_err-write
+returns-in_err-write c =
     let a = c.args in
-    let x = frame_refused a.configuration (tables (goal.at.returns-in-Refused c).Start) (content (goal.at.returns-in-Refused c).Start) a.bytes a.offset a.buffer.now (short (goal.at.returns-in-Refused c).Else-not-within) (within (goal.at.returns-in-Refused c).Else-not-within) (part (goal.at.returns-in-Refused c).Else-not-within) _ _ refl (size (goal.at.returns-in-Refused c).Else-not-within) (sym (ap written_of c.in-Refused.is) ∙ c.write.ensures.answer) c.write.ensures.lent in
-    record { answer = x.told_is; lent = x.lent_is }
+    let at = (goal.at.returns-in_err-write c).Else-not-within in
+    let x = frame_refused a.configuration (set_of a.tables.now) (content_of a.content.now) a.bytes a.offset a.buffer.now (short at) (within at) (part at) _ _ refl (size at) c.in_err-write.ensures.answer c.write.ensures.lent in
+    let p = err_from_is_err_and c.from_residual.result c.from_residual.ensures.1 in
+    rw (p.1, p.2) (record { answer = x.told_is; lent = x.lent_is })
 
-pub returns-in-Written : goal.returns-in-Written
-returns-in-Written c =
+pub returns : goal.returns
+returns c =
     let a = c.args in
-    let x = frame-written a.configuration (tables (goal.at.returns-in-Written c).Start) (content (goal.at.returns-in-Written c).Start) a.bytes a.offset a.buffer.now (short (goal.at.returns-in-Written c).Else-not-within) (within (goal.at.returns-in-Written c).Else-not-within) (part (goal.at.returns-in-Written c).Else-not-within) _ _ (size (goal.at.returns-in-Written c).Else-not-within) (sym (ap written_of c.in-Written.is) ∙ c.write.ensures.answer) c.write.ensures.lent c.put_header.ensures in
+    let at = (goal.at.returns c).Else-not-within in
+    let x = frame-written a.configuration (set_of a.tables.now) (content_of a.content.now) a.bytes a.offset a.buffer.now (short at) (within at) (part at) _ _ (size at) c.in_ok-write.ensures.answer c.write.ensures.lent c.put_header.ensures in
     record { answer = x.told_is; lent = x.lent_is }
