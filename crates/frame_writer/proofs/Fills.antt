@@ -6,8 +6,6 @@ use mathlib.Core.Bool.{Bool, true, false, cond}
 use mathlib.Core.List.{List, ◌++◌}
 use native.Mathlib.Omega.{arith}
 use native.Mathlib.Nat.{zero-add}
-use lib.Dec.{eqb}
-use lib.IntN.{ℤ}
 use lib.ListN.{length, take, replicate, length-replicate}
 use Rattle.common.specs.Tables.{Tables, tables_pass}
 use Rattle.common.specs.declared.configuration.Configuration.{Configuration}
@@ -27,38 +25,39 @@ use Rattle.sending.proofs.Counts.{sent-written, laid-written}
 use Rattle.sending.proofs.Puts.{put-append}
 use Rattle.residual_data.specs.Residual.{nonzero}
 use Rattle.spectral_data.specs.Sent.{pairs_bits}
-use Rattle.frame_writer.specs.Frame.{Content, symbols_of, fields_bits, early_bits, late_bits, tail_bits, reserved, held_back}
-use Rattle.frame_writer.specs.Private.{Judged, Passed, early_by, late_by, held_by}
+use Rattle.frame_writer.specs.Frame.{Content, symbols_of, fields_bits, least_bit, early_bits, late_bits, tail_bits, reserved, held_back}
+use Rattle.frame_writer.specs.Private.{Judged, Passed, held_by}
 use Rattle.frame_writer.proofs.Fields.{fields-bits-length, fields-put}
 use Rattle.frame_writer.proofs.Frames.{shifts-below, tail-room, frame-laid}
-use Rattle.frame_writer.proofs.Streams.{early-length, pairs-there, symbols-pass, may-send, sound-sent}
+use Rattle.frame_writer.proofs.Streams.{early-length, early-few, pairs-there, symbols-pass, may-send, sound-sent}
 
 -- the pairs' bits counted behind the fields' length
-pub early-counted : (fs ne : ℕ) (side : SideInfo) (lines : List ℤ) (place r : ℕ) → place ≡ side_length fs ne side → r ≡ place + length (pairs_bits (eqb side.lsb 1) lines 0 (side.lastnz / 2)) → r ≡ length (early_by fs ne side lines)
-early-counted fs ne side lines place r at is =
-    is ∙ ap (λ (i : ℕ). i + length (pairs_bits (eqb side.lsb 1) lines 0 (side.lastnz / 2))) at ∙ sym (early-length fs ne side lines)
+pub early-counted : (fs ne : ℕ) (w : Content) (place r : ℕ) → place ≡ side_length fs ne w.side → r ≡ place + length (pairs_bits (least_bit w) w.lines 0 (w.side.lastnz / 2)) → r ≡ length (early_bits fs ne w)
+early-counted fs ne w place r at is =
+    is ∙ ap (λ (i : ℕ). i + length (pairs_bits (least_bit w) w.lines 0 (w.side.lastnz / 2))) at ∙ sym (early-length fs ne w)
 
 -- what the fields leave of a frame, put where it writes
 abbrev pub fields_by : Bool → ℕ → ℕ → SideInfo → List ℕ → List ℕ
 fields_by writing fs ne side f = cond writing (put_fields f 0 (side_fields fs ne side)) f
 
 -- the pairs' bits are put behind them
-pub early-put : (writing : Bool) (fs ne : ℕ) (side : SideInfo) (lines : List ℤ) (place : ℕ) (f g h : List ℕ) → place ≡ side_length fs ne side → g ≡ fields_by writing fs ne side f → h ≡ put_all writing g place (pairs_bits (eqb side.lsb 1) lines 0 (side.lastnz / 2)) → h ≡ put_all writing f 0 (early_by fs ne side lines)
-early-put true fs ne side lines place f g h at fields pairs =
-    let bits = fields_bits (side_fields fs ne side) in
-    let later = pairs_bits (eqb side.lsb 1) lines 0 (side.lastnz / 2) in
-    let behind : place ≡ 0 + length bits = at ∙ sym (fields-bits-length (side_fields fs ne side)) ∙ sym (zero-add (length bits)) in
+pub early-put : (writing : Bool) (fs ne : ℕ) (w : Content) (place : ℕ) (f g h : List ℕ) → place ≡ side_length fs ne w.side → g ≡ fields_by writing fs ne w.side f → h ≡ put_all writing g place (pairs_bits (least_bit w) w.lines 0 (w.side.lastnz / 2)) → h ≡ put_all writing f 0 (early_bits fs ne w)
+early-put true fs ne w place f g h at fields pairs =
+    let bits = fields_bits (side_fields fs ne w.side) in
+    let later = pairs_bits (least_bit w) w.lines 0 (w.side.lastnz / 2) in
+    let behind : place ≡ 0 + length bits = at ∙ sym (fields-bits-length (side_fields fs ne w.side)) ∙ sym (zero-add (length bits)) in
     pairs ∙
-    ap (λ (x : List ℕ). put_bits x place later) (fields ∙ fields-put f 0 (side_fields fs ne side)) ∙
+    ap (λ (x : List ℕ). put_bits x place later) (fields ∙ fields-put f 0 (side_fields fs ne w.side)) ∙
     ap (λ (i : ℕ). put_bits (put_bits f 0 bits) i later) behind ∙
     sym (put-append f 0 bits later)
-early-put false fs ne side lines place f g h at fields pairs = pairs ∙ fields
+early-put false fs ne w place f g h at fields pairs = pairs ∙ fields
 
 -- where they may be
-pub early-puts : (writing : Bool) (fs ne : ℕ) (side : SideInfo) (lines : List ℤ) (place : ℕ) (f g : List ℕ) → length f ≤ 400 → place ≡ side_length fs ne side → length g ≡ length f → length (early_by fs ne side lines) ≤ 6074 → (writing ≡ true → length (early_by fs ne side lines) ≤ 8 * length f) → Puts writing g place (length (pairs_bits (eqb side.lsb 1) lines 0 (side.lastnz / 2)))
-early-puts writing fs ne side lines place f g short at size few room =
-    let sum = early-length fs ne side lines in
-    record { few = omega (arith, at, few, sum); short = omega (arith, short, size); room = λ e. omega (arith, at, room e, sum, size) }
+pub early-puts : (writing : Bool) (k : Configuration) (ne : ℕ) (w : Content) (place : ℕ) (f g : List ℕ) → Judged k ne (length f) → Passed k.fs_ind ne w → place ≡ side_length k.fs_ind ne w.side → length g ≡ length f → (writing ≡ true → length (early_bits k.fs_ind ne w) ≤ 8 * length f) → Puts writing g place (length (pairs_bits (least_bit w) w.lines 0 (w.side.lastnz / 2)))
+early-puts writing k ne w place f g j p at size room =
+    let few = early-few k ne (length f) w j p in
+    let sum = early-length k.fs_ind ne w in
+    record { few = omega (arith, at, few, sum); short = omega (arith, j.short, size); room = λ e. omega (arith, at, room e, sum, size) }
 
 -- the calls that fill a frame
 module _ (k : Configuration) (t : Tables) (passes : tables_pass t ≡ true) (ne : ℕ) (w : Content) (f : List ℕ) (j : Judged k ne (length f)) (p : Passed k.fs_ind ne w)
@@ -101,7 +100,7 @@ module _ (k : Configuration) (t : Tables) (passes : tables_pass t ≡ true) (ne 
       let below = shifts-below symbols all in
       rw is (sound.fits, sound.range-least, omega (arith, below, room, j.short))
 
-  pub late_asked : (h : List ℕ) (early held left : ℕ) → length h ≡ length f → early ≡ length (early_by k.fs_ind ne w.side w.lines) → left ≡ 8 * length f - early - held → (length h ≤ 65535) × (early + left ≤ 8 * length h) × (w.side.lastnz ≤ length w.lines) × (length w.residual ≤ nonzero w.lines)
+  pub late_asked : (h : List ℕ) (early held left : ℕ) → length h ≡ length f → early ≡ length (early_bits k.fs_ind ne w) → left ≡ 8 * length f - early - held → (length h ≤ 65535) × (early + left ≤ 8 * length h) × (w.side.lastnz ≤ length w.lines) × (length w.residual ≤ nonzero w.lines)
   late_asked h early held left size is left_is =
       (omega (arith, size, j.short), omega (arith, size, is, left_is, room), omega (arith, (pairs-there k.fs_ind ne w.side j.most p.sides).2, p.count), p.few)
 
@@ -113,11 +112,11 @@ module _ (k : Configuration) (t : Tables) (passes : tables_pass t ≡ true) (ne 
   pub filled : (s : EncoderState) (early held left : ℕ) (h h' h'' last : List ℕ) →
       s ≡ state_behind start_encoder symbols →
       h ≡ laid_behind start_encoder (replicate (length f) 0) symbols →
-      early ≡ length (early_by k.fs_ind ne w.side w.lines) →
-      h' ≡ put_bits h 0 (early_by k.fs_ind ne w.side w.lines) →
+      early ≡ length (early_bits k.fs_ind ne w) →
+      h' ≡ put_bits h 0 (early_bits k.fs_ind ne w) →
       held ≡ held_by k.reading s →
       left ≡ 8 * length f - early - held →
-      h'' ≡ put_bits h' early (take left (late_by w.side w.lines w.residual)) →
+      h'' ≡ put_bits h' early (take left (late_bits w)) →
       last ≡ with_own h'' s.out (finish_bytes k.reading s) (finish_last k.reading s) (finish_bits k.reading s) →
       last ≡ laid k.reading (length f) symbols (tail_bits k t (8 * length f) ne w)
   filled s early held left h h' h'' last state head count put held-is left_is late finish =

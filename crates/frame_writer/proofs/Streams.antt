@@ -5,8 +5,6 @@ use mathlib.Core.Path.{◌≡◌, sym, ap, ap₂, subst, ◌∙◌}
 use mathlib.Core.Bool.{Bool, true, false}
 use mathlib.Core.List.{List, [], ◌++◌, append-nil}
 use native.Mathlib.Omega.{arith}
-use lib.Dec.{eqb}
-use lib.IntN.{ℤ}
 use lib.ListN.{length, length-append}
 use Rattle.common.specs.Tables.{Tables, tables_pass}
 use Rattle.common.specs.declared.configuration.Configuration.{Configuration}
@@ -33,26 +31,26 @@ use Rattle.spectral_data.specs.Sent.{sent_pairs, pairs_bits}
 use Rattle.spectral_data.proofs.Sends.{pairs-few}
 use Rattle.spectral_data.proofs.Puts.{pairs-bits-few}
 use Rattle.frame_reader.proofs.Data.{weighting-most}
-use Rattle.frame_writer.specs.Frame.{Content, symbols_of, fields_bits, reserved}
-use Rattle.frame_writer.specs.Private.{Judged, Passed, early_by}
+use Rattle.frame_writer.specs.Frame.{Content, symbols_of, fields_bits, least_bit, early_bits, reserved}
+use Rattle.frame_writer.specs.Private.{Judged, Passed}
 use Rattle.frame_writer.proofs.Fields.{fields-bits-length}
 use Rattle.frame_writer.proofs.Frames.{shifts-below}
 use Rattle.frame_writer.proofs.Values.{content-passes}
 
 -- the bits before what comes late are the fields' and the pairs', and few
-pub early-length : (fs ne : ℕ) (side : SideInfo) (lines : List ℤ) → length (early_by fs ne side lines) ≡ side_length fs ne side + length (pairs_bits (eqb side.lsb 1) lines 0 (side.lastnz / 2))
-early-length fs ne side lines =
-    length-append (fields_bits (side_fields fs ne side)) (pairs_bits (eqb side.lsb 1) lines 0 (side.lastnz / 2)) ∙
-    ap (λ (n : ℕ). n + length (pairs_bits (eqb side.lsb 1) lines 0 (side.lastnz / 2))) (fields-bits-length (side_fields fs ne side))
+pub early-length : (fs ne : ℕ) (w : Content) → length (early_bits fs ne w) ≡ side_length fs ne w.side + length (pairs_bits (least_bit w) w.lines 0 (w.side.lastnz / 2))
+early-length fs ne w =
+    length-append (fields_bits (side_fields fs ne w.side)) (pairs_bits (least_bit w) w.lines 0 (w.side.lastnz / 2)) ∙
+    ap (λ (n : ℕ). n + length (pairs_bits (least_bit w) w.lines 0 (w.side.lastnz / 2))) (fields-bits-length (side_fields fs ne w.side))
 
 pub pairs-there : (fs ne : ℕ) (side : SideInfo) → ne ≤ 400 → side_passes fs ne side ≡ true → (2 * (side.lastnz / 2) ≤ ne) × (side.lastnz / 2 ≤ 200) × (side.lastnz ≤ ne)
 pairs-there fs ne side most e =
     let l = (side-limits fs ne side e).last in
     (omega (arith, l), omega (arith, l, most), l)
 
-pub early-few : (fs ne : ℕ) (side : SideInfo) (lines : List ℤ) → fs ≤ 4 → 60 ≤ ne → ne ≤ 400 → side_passes fs ne side ≡ true → length (early_by fs ne side lines) ≤ 6074
-early-few fs ne side lines low least most e =
-    omega (arith, early-length fs ne side lines, (length-range fs ne side low least most).1, pairs-bits-few (eqb side.lsb 1) lines 0 (side.lastnz / 2), (pairs-there fs ne side most e).1)
+pub early-few : (k : Configuration) (ne n : ℕ) (w : Content) → Judged k ne n → Passed k.fs_ind ne w → length (early_bits k.fs_ind ne w) ≤ 6074
+early-few k ne n w j p =
+    omega (arith, early-length k.fs_ind ne w, (length-range k.fs_ind ne w.side j.fs-low j.least j.most).1, pairs-bits-few (least_bit w) w.lines 0 (w.side.lastnz / 2), (pairs-there k.fs_ind ne w.side j.most p.sides).1)
 
 -- a state behind symbols that could be counted or sent
 pub ready-end : {writing : Bool} {s : EncoderState} {n : ℕ} (xs : List Sent) → Ready writing s n xs → Ready writing (sent_all writing s xs) n []

@@ -1,5 +1,5 @@
 -- Not needed to believe anything: what private contracts and proofs here speak by. No public contract cites it.
-use Rattle.std.specs.Prelude.{ℕ, ◌+◌, ◌*◌, ◌/◌, ◌≤◌, ◌≡◌, Bool, true, not, cond, ◌&&◌, ◌||◌, List, ◌++◌, ltb, leb, eqb, ℤ, length}
+use Rattle.std.specs.Prelude.{ℕ, ◌+◌, ◌*◌, ◌≤◌, ◌≡◌, Bool, true, not, cond, ◌&&◌, ◌||◌, List, ltb, leb, eqb, ℤ, length}
 use Rattle.common.specs.Reply.{Answer, accepted, given, field_outside, line_outside, residual_too_long, no_room}
 use Rattle.common.specs.Tables.{Tables}
 use Rattle.common.specs.declared.configuration.ConfigurationError.{ConfigurationError}
@@ -9,16 +9,12 @@ use Rattle.frame_writer.specs.declared.WriteError.TheVariants.{OutsideLimits, Wr
 use Rattle.common.specs.declared.configuration.Configuration.{Configuration}
 use Rattle.contexts.specs.Lines.{magnitude_at}
 use Rattle.side_info.specs.Record.{side_passes}
-use Rattle.side_info.specs.Layout.{side_fields}
-use Rattle.side_info.specs.declared.SideInfo.{SideInfo}
 use Rattle.range_encoder.specs.Encoder.{reserved_of, forecast_of}
 use Rattle.range_encoder.specs.declared.EncoderState.{EncoderState}
-use Rattle.sending.specs.Sending.{Bit, laid}
+use Rattle.sending.specs.Sending.{laid}
 use Rattle.tns_data.specs.Sent.{tns_passes}
-use Rattle.spectral_data.specs.Sent.{pairs_bits}
 use Rattle.residual_data.specs.Residual.{nonzero}
-use Rattle.residual_data.specs.Sent.{residual_bits, late_pairs}
-use Rattle.frame_writer.specs.Frame.{Content, symbols_of, fields_bits, early_bits, tail_bits, reserved, fields_pass, first_failing}
+use Rattle.frame_writer.specs.Frame.{Content, symbols_of, early_bits, tail_bits, reserved, fields_pass, first_failing}
 
 -- what has been judged before a frame is written: configuration and length
 pub record Judged (k : Configuration) (ne n : ℕ) : Type 0 where
@@ -41,15 +37,7 @@ abbrev pub of_configuration : ConfigurationError → WriteError
 of_configuration ConfigurationOutside = OutsideLimits
 of_configuration (ConfigurationLength len) = WrongLength len
 
--- the bits before what comes late, and these, by what the code hands over for them
-abbrev pub early_by : ℕ → ℕ → SideInfo → List ℤ → List Bit
-early_by fs ne side lines =
-    fields_bits (side_fields fs ne side) ++ pairs_bits (eqb side.lsb 1) lines 0 (side.lastnz / 2)
-
-abbrev pub late_by : SideInfo → List ℤ → List ℕ → List Bit
-late_by side lines residual =
-    cond (eqb side.lsb 1) (late_pairs lines 0 (side.lastnz / 2)) (residual_bits 0 lines residual)
-
+-- what the late bits are cut by, by the state that the code has
 abbrev pub held_by : ℕ → EncoderState → ℕ
 held_by reading s = cond (eqb reading 0) (forecast_of s) (reserved_of s)
 

@@ -4,19 +4,17 @@ ghost use Rattle.common.specs.TableSets.{passed_of};
 ghost use Rattle.contexts.specs.First.{first_from};
 ghost use Rattle.range_encoder.specs.Encoder.{start_encoder};
 ghost use Rattle.range_encoder.specs.Private.{Fits};
-ghost use Rattle.side_info.specs.Record.{side_passes};
 ghost use Rattle.sending.specs.Sending.{put_bits, laid};
 ghost use Rattle.sending.specs.Private.{Ready, put_all, sent_all, laid_all};
 ghost use Rattle.residual_data.specs.Residual.{nonzero};
-ghost use Rattle.frame_writer.specs.Frame.{fields_pass, symbols_of, early_bits, tail_bits, reserved};
+ghost use Rattle.frame_writer.specs.Frame.{fields_pass, symbols_of, early_bits, late_bits, tail_bits, reserved};
 ghost use Rattle.frame_writer.specs.Returned.{content_of, written_of, told, frame_behind};
-ghost use Rattle.frame_writer.specs.Private.{Judged, Passed, early_by, late_by, held_by, fails_at, write_fitting, write_on};
+ghost use Rattle.frame_writer.specs.Private.{Judged, Passed, held_by, fails_at, write_fitting, write_on};
 
 use crate::{Content, WriteError};
 use common::configuration::Configuration;
 use common::table_set::PassedSet;
 use range_encoder::EncoderState;
-use side_info::SideInfo;
 
 // 13: the side fields and the TNS fields.
 fn fields_pass(fs_ind: usize, ne: usize, content: &Content) -> bool
@@ -95,21 +93,21 @@ fn send_symbols(
 fn put_early(
     buf: &mut [u8],
     writing: bool,
-    fs_ind: usize,
+    configuration: Configuration,
     ne: usize,
-    side: SideInfo,
-    lines: &[i16],
+    content: &Content,
 ) -> usize
-    requires { (fs_ind ≤ 4) × (60 ≤ ne) × (ne ≤ 400) × (length buf.old ≤ 400) × (length lines.now ≡ ne) × (side_passes fs_ind ne side ≡ true) × (writing ≡ true → length (early_by fs_ind ne side lines.now) ≤ 8 * length buf.old) }
-    ensures count { result ≡ length (early_by fs_ind ne side lines.now) }
-    ensures lent { buf.new ≡ put_all writing buf.old 0 (early_by fs_ind ne side lines.now) }
+    requires { Judged configuration ne (length buf.old) × Passed configuration.fs_ind ne (content_of content.now) × (writing ≡ true → length (early_bits configuration.fs_ind ne (content_of content.now)) ≤ 8 * length buf.old) }
+    ensures count { result ≡ length (early_bits configuration.fs_ind ne (content_of content.now)) }
+    ensures lent { buf.new ≡ put_all writing buf.old 0 (early_bits configuration.fs_ind ne (content_of content.now)) }
 {
-    let place = side_info::inner::side_length(side, fs_ind, ne);
-    let pairs = side.lastnz as usize / 2;
+    let side = content.side;
+    let place = side_info::inner::side_length(side, configuration.fs_ind, ne);
     if writing {
-        side_info::inner::put(buf, 0, side, fs_ind, ne);
+        side_info::inner::put(buf, 0, side, configuration.fs_ind, ne);
     }
-    spectral_data::inner::put_pairs(buf, writing, place, side.lsb == 1, lines, pairs)
+    let pairs = side.lastnz as usize / 2;
+    spectral_data::inner::put_pairs(buf, writing, place, side.lsb == 1, content.lines, pairs)
 }
 
 // What the late bits are cut by.
@@ -126,7 +124,7 @@ fn held_back(reading: usize, st: EncoderState) -> usize
 // What comes late, as far as there is room behind the bits before it.
 fn put_late(buf: &mut [u8], place: usize, room: usize, content: &Content)
     requires { (length buf.old ≤ 65535) × (place + room ≤ 8 * length buf.old) × (content.now.side.lastnz ≤ length content.now.lines.now) × (length content.now.residual.now ≤ nonzero content.now.lines.now) }
-    ensures { buf.new ≡ put_bits buf.old place (take room (late_by content.now.side content.now.lines.now content.now.residual.now)) }
+    ensures { buf.new ≡ put_bits buf.old place (take room (late_bits (content_of content.now))) }
 {
     let side = content.side;
     let lines = content.lines;
@@ -152,14 +150,7 @@ fn fill(
     let bits = 8 * frame.len();
     frame.fill(0);
     let st = send_symbols(frame, true, configuration, ne, tables, content);
-    let early = put_early(
-        frame,
-        true,
-        configuration.fs_ind,
-        ne,
-        content.side,
-        content.lines,
-    );
+    let early = put_early(frame, true, configuration, ne, content);
     let room = (bits - early).saturating_sub(held_back(configuration.reading, st));
     put_late(frame, early, room, content);
     range_encoder::inner::ac_enc_finish(frame, st, configuration.reading);
@@ -177,14 +168,7 @@ fn write_fitting(
     ensures answer { written_of result ≡ told (write_fitting configuration (passed_of tables.now) ne (content_of content.now) (length frame.old)) }
     ensures lent { frame.new ≡ frame_behind (write_fitting configuration (passed_of tables.now) ne (content_of content.now) (length frame.old)) frame.old }
 {
-    let early = put_early(
-        frame,
-        false,
-        configuration.fs_ind,
-        ne,
-        content.side,
-        content.lines,
-    );
+    let early = put_early(frame, false, configuration, ne, content);
     let st = send_symbols(frame, false, configuration, ne, tables, content);
     if 8 * frame.len() < early + range_encoder::inner::reserved_bits(st) {
         return Err(WriteError::NoRoom);

@@ -40,9 +40,7 @@ pub overflow_add-early : goal.overflow_add-early
 overflow_add-early c =
     let a = c.args in
     let p = c.requires in
-    let side = a.content.now.side in
-    let lines = a.content.now.lines.now in
-    let few = early-few a.configuration.fs_ind a.ne side lines p.0.fs-low p.0.least p.0.most p.1.sides in
+    let few = early-few a.configuration a.ne (length a.frame.now) (content_of a.content.now) p.0 p.1 in
     let n = counted (goal.at.overflow_add-early c).After-send_symbols-st in
     omega (arith, few, c.put_early-early.ensures.count, c.reserved_bits.ensures, n.2, log-range c.send_symbols-st.result.range n.1 n.0.range-fits)
 
