@@ -1,3 +1,4 @@
+pub mod Tables
 pub mod Dump
 pub mod Steps
 pub mod Stated

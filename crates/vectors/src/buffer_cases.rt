@@ -1,9 +1,8 @@
 // Calls of buffer_reader and buffer_writer: head, tail, width and value; the bytes are the buffer.
 use crate::answers::{none, of_buffer, told};
 use crate::number::low;
-use buffer_reader::Cursor;
-use buffer_reader::reader::{Read, Taken};
-use buffer_writer::Written;
+use buffer_reader::reader::Read;
+use buffer_reader::{BufferError, Cursor};
 use forms::inner::Reached;
 
 pub(crate) fn cursor(n: [usize; 24]) -> Cursor {
@@ -29,8 +28,8 @@ pub(crate) fn read(kind: u8, n: [usize; 24], buf: &[u8]) -> [usize; 24] {
 fn reached(at: Cursor, r: Reached) -> [usize; 24] {
     let next = r.at;
     match r.taken {
-        Taken::Value(value) => accepted(value as usize, next),
-        Taken::Refused(why) => {
+        Ok(value) => accepted(value as usize, next),
+        Err(why) => {
             if next.head != at.head || next.tail != at.tail {
                 return none();
             }
@@ -46,12 +45,12 @@ pub(crate) fn accepted(value: usize, next: Cursor) -> [usize; 24] {
 
 pub(crate) fn write(kind: u8, n: [usize; 24], buf: &mut [u8]) -> [usize; 24] {
     match written(kind, n, buf) {
-        Written::At(next) => accepted(0, next),
-        Written::Refused(why) => of_buffer(why),
+        Ok(next) => accepted(0, next),
+        Err(why) => of_buffer(why),
     }
 }
 
-fn written(kind: u8, n: [usize; 24], buf: &mut [u8]) -> Written {
+fn written(kind: u8, n: [usize; 24], buf: &mut [u8]) -> Result<Cursor, BufferError> {
     let at = cursor(n);
     let width = n[2];
     let value = n[3];

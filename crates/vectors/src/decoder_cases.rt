@@ -5,13 +5,12 @@ use crate::buffer_cases::cursor;
 use crate::lists;
 use crate::number::low;
 use buffer_reader::Cursor;
-use range_decoder::lent::SymbolAt;
-use range_decoder::{DecoderState, Started};
+use range_decoder::DecoderState;
 
 pub(crate) fn start(n: [usize; 24], frame: &[u8]) -> [usize; 24] {
     match range_decoder::ac_dec_init(frame, cursor(n)) {
-        Started::At(state, next) => accepted(0, state, next),
-        Started::Refused(why) => of_codec(why),
+        Ok((state, next)) => accepted(0, state, next),
+        Err(why) => of_codec(why),
     }
 }
 
@@ -25,8 +24,8 @@ pub(crate) fn step(n: [usize; 24], row: &[u8], frame: &[u8]) -> [usize; 24] {
     let gone = forms::inner::step_by(state, frame, cursor(n), &words[..count]);
     let behind = gone.state;
     match gone.given {
-        SymbolAt::Symbol(symbol, next) => accepted(symbol, behind, next),
-        SymbolAt::Refused(why) => {
+        Ok((symbol, next)) => accepted(symbol, behind, next),
+        Err(why) => {
             if behind.low != state.low || behind.range != state.range {
                 return none();
             }

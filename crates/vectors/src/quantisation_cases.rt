@@ -5,6 +5,7 @@ use crate::answers::{none, told};
 use crate::lists;
 use crate::number::low;
 use crate::side_cases::configuration;
+use common::table_set::TableSet;
 use contexts::inner::magnitude;
 use spectral_quantization::estimate::{BitConsumption, compute_bit_consumption};
 use spectral_quantization::gain::{GainError, gain_index};
@@ -34,22 +35,19 @@ pub(crate) fn estimated(n: [usize; 24], bytes: &[u8], lent: &[u8]) -> [usize; 24
     if lent.len() != 8752 {
         return none();
     }
+    let (lookup, parts) = lent.split_at(4096);
     let mut words = [0u16; 2328];
-    lists::words(&lent[4096..], &mut words);
-    let tables = &words[..];
+    lists::words(parts, &mut words);
+    let tables = TableSet {
+        lookup,
+        frequencies: &words[..1088],
+        bits: &words[1088..2176],
+        orders: &words[2176..2192],
+        coefficients: &words[2192..],
+    };
     let mut lines = [0i16; 400];
     let count = lists::lines(bytes, &mut lines);
-    let estimated = compute_bit_consumption(
-        configuration(n),
-        n[0],
-        &lent[0..4096],
-        &tables[0..1088],
-        &tables[1088..2176],
-        &tables[2176..2192],
-        &tables[2192..2328],
-        n[1],
-        &lines[..count],
-    );
+    let estimated = compute_bit_consumption(configuration(n), n[0], &tables, n[1], &lines[..count]);
     match estimated {
         Ok(b) => numbers(b),
         Err(_) => none(),

@@ -5,8 +5,7 @@ use crate::number::low;
 use buffer_reader::Cursor;
 use common::configuration::Configuration;
 use side_info::fields::SideInfoError;
-use side_info::reader::SideRead;
-use side_info::writer::{SideWriteError, SideWritten};
+use side_info::writer::SideWriteError;
 use side_info::{SideInfo, Sns};
 
 // No reading plays a part in the side information, nor in the estimate.
@@ -20,19 +19,23 @@ pub(crate) fn configuration(n: [usize; 24]) -> Configuration {
 
 pub(crate) fn read(n: [usize; 24], frame: &[u8]) -> [usize; 24] {
     match side_info::reader::read(frame, cursor(n), configuration(n)) {
-        SideRead::Side(side, next) => fields(side, next),
-        SideRead::Refused(why) => match why {
-            SideInfoError::OutsideLimits => told(&[1]),
-            SideInfoError::BandwidthIdxOutOfRange(value) => told(&[5, value as usize]),
-            SideInfoError::LastNonZeroTupleGreaterThanYLen(lastnz, ne) => told(&[
-                6,
-                lastnz as usize,
-                ne,
-            ]),
-            SideInfoError::PlcTriggerSns1OutOfRange(joint) => told(&[7, joint as usize]),
-            SideInfoError::PlcTriggerSns2OutOfRange(joint) => told(&[8, joint as usize]),
-            SideInfoError::Buffer(why) => of_buffer(why),
-        },
+        Ok((side, next)) => fields(side, next),
+        Err(why) => of_read(why),
+    }
+}
+
+fn of_read(why: SideInfoError) -> [usize; 24] {
+    match why {
+        SideInfoError::OutsideLimits => told(&[1]),
+        SideInfoError::BandwidthIdxOutOfRange(value) => told(&[5, value as usize]),
+        SideInfoError::LastNonZeroTupleGreaterThanYLen(lastnz, ne) => told(&[
+            6,
+            lastnz as usize,
+            ne,
+        ]),
+        SideInfoError::PlcTriggerSns1OutOfRange(joint) => told(&[7, joint as usize]),
+        SideInfoError::PlcTriggerSns2OutOfRange(joint) => told(&[8, joint as usize]),
+        SideInfoError::Buffer(why) => of_buffer(why),
     }
 }
 
@@ -71,12 +74,16 @@ fn listed(side: SideInfo) -> [u32; 19] {
 
 pub(crate) fn write(n: [usize; 24], frame: &mut [u8]) -> [usize; 24] {
     match side_info::writer::write(frame, cursor(n), configuration(n), side_of(n)) {
-        SideWritten::At(next) => accepted(0, next),
-        SideWritten::Refused(why) => match why {
-            SideWriteError::OutsideLimits => told(&[1]),
-            SideWriteError::FieldOutside => told(&[13]),
-            SideWriteError::Buffer(why) => of_buffer(why),
-        },
+        Ok(next) => accepted(0, next),
+        Err(why) => of_write(why),
+    }
+}
+
+fn of_write(why: SideWriteError) -> [usize; 24] {
+    match why {
+        SideWriteError::OutsideLimits => told(&[1]),
+        SideWriteError::FieldOutside => told(&[13]),
+        SideWriteError::Buffer(why) => of_buffer(why),
     }
 }
 
