@@ -2,13 +2,13 @@
 ghost use Rattle.std.specs.Prelude.{◌≡◌, ◌≤◌, suc, length, take, IfOk, OnOk};
 ghost use Rattle.std.specs.Option.{IfSome};
 ghost use Rattle.std.specs.Io.KnownBytes.{Appends};
-ghost use Rattle.common.specs.Tables.{Tables};
+ghost use Rattle.dumping.specs.Tables.{tables_in};
 ghost use Rattle.dumping.specs.Dump.{started, dump_text};
 ghost use Rattle.dumping.specs.Steps.{step_at, steps_text};
 ghost use Rattle.dump_io.specs.Streams.{Within, IsFirst};
 ghost use Rattle.dump_io.specs.Private.{Standing, Further, Leads, held};
 
-use dumping::{Onward, State};
+use dumping::{HeldTables, Onward, State};
 use std::io;
 use std::io::{Error, ErrorKind, Read, Write};
 
@@ -52,33 +52,16 @@ fn turn<W: Write>(
     input: &[u8],
     offset: usize,
     state: State,
-    lookup: &mut [u8],
-    frequencies: &mut [u16],
-    bits: &mut [u16],
-    orders: &mut [u16],
-    coefficients: &mut [u16],
+    tables: &mut HeldTables,
     text: &mut [u8],
 ) -> io::Result<Option<(usize, State)>>
     requires { Standing (offset, state) }
     ensures further { IfOk result (λ next. IfSome next (λ q. Further (offset, state) q (length input.now))) }
-    ensures written { let before : Tables = record { lookup = lookup.old; frequencies = frequencies.old; bits = bits.old; orders = orders.old; coefficients = coefficients.old } in
-        OnOk result (Appends (W.contents to.old) (W.contents to.new) (step_at (held (offset, state) before) input.now offset).text) }
-    ensures leads { let before : Tables = record { lookup = lookup.old; frequencies = frequencies.old; bits = bits.old; orders = orders.old; coefficients = coefficients.old } in
-        let after : Tables = record { lookup = lookup.new; frequencies = frequencies.new; bits = bits.new; orders = orders.new; coefficients = coefficients.new } in
-        let s = step_at (held (offset, state) before) input.now offset in
-        IfOk result (λ next. Leads s.next s.held next after) }
+    ensures written { OnOk result (Appends (W.contents to.old) (W.contents to.new) (step_at (held (offset, state) (tables_in tables.old)) input.now offset).text) }
+    ensures leads { let s = step_at (held (offset, state) (tables_in tables.old)) input.now offset in
+        IfOk result (λ next. Leads s.next s.held next (tables_in tables.new)) }
 {
-    let step = dumping::inner::step(
-        input,
-        offset,
-        state,
-        lookup,
-        frequencies,
-        bits,
-        orders,
-        coefficients,
-        text,
-    );
+    let step = dumping::inner::step(input, offset, state, tables, text);
     put(to, text, step.text)?;
     match step.next {
         Onward::At(next) => Ok(Some((next, step.state))),
@@ -89,30 +72,14 @@ fn turn<W: Write>(
 fn run<W: Write>(
     to: &mut W,
     input: &[u8],
-    lookup: &mut [u8],
-    frequencies: &mut [u16],
-    bits: &mut [u16],
-    orders: &mut [u16],
-    coefficients: &mut [u16],
+    tables: &mut HeldTables,
     text: &mut [u8],
 ) -> io::Result<()>
-    ensures { let before : Tables = record { lookup = lookup.old; frequencies = frequencies.old; bits = bits.old; orders = orders.old; coefficients = coefficients.old } in
-        OnOk result (Appends (W.contents to.old) (W.contents to.new) (steps_text (suc (length input.now)) (record { state = started; tables = before }) input.now 0)) }
+    ensures { OnOk result (Appends (W.contents to.old) (W.contents to.new) (steps_text (suc (length input.now)) (record { state = started; tables = tables_in tables.old }) input.now 0)) }
 {
     let mut next = Some((0, State::start()));
     while let Some((offset, state)) = next {
-        next = turn(
-            to,
-            input,
-            offset,
-            state,
-            lookup,
-            frequencies,
-            bits,
-            orders,
-            coefficients,
-            text,
-        )?;
+        next = turn(to, input, offset, state, tables, text)?;
     }
     Ok(())
 }
@@ -121,20 +88,6 @@ fn run<W: Write>(
 pub fn dump<W: Write>(to: &mut W, input: &[u8]) -> io::Result<()>
     ensures { OnOk result (Appends (W.contents to.old) (W.contents to.new) (dump_text input.now)) }
 {
-    let mut lookup = [0u8; 4096];
-    let mut frequencies = [0u16; 1088];
-    let mut bits = [0u16; 1088];
-    let mut orders = [0u16; 16];
-    let mut coefficients = [0u16; 136];
     let mut text = [0u8; 65536];
-    run(
-        to,
-        input,
-        &mut lookup,
-        &mut frequencies,
-        &mut bits,
-        &mut orders,
-        &mut coefficients,
-        &mut text,
-    )
+    run(to, input, &mut HeldTables::blank(), &mut text)
 }

@@ -6,4 +6,4 @@ use Rattle.dump_io.proofs.inner.dump.Goals as goal
 
 pub returns : goal.returns
 returns g c =
-    subst (λ (whole : List ℕ). OnOk c.run.result (Appends (g.W.Write.contents c.args.to.now) (g.W.Write.contents c.run.new.to) whole)) (steps-dump c.args.input.now) c.run.ensures
+    subst (λ (whole : List ℕ). OnOk c.run.result (Appends (g.W.Write.contents c.args.to.now) (g.W.Write.contents c.run.new.to) whole)) (steps-dump c.args.input.now) (rw c.blank.ensures at c.run.ensures)

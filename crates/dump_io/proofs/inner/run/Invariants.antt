@@ -2,6 +2,7 @@
 -- still to come make the whole text.
 use Rattle.std.proofs.Common.{length, suc}
 use Rattle.dumping.specs.Dump.{started}
+use Rattle.dumping.specs.Tables.{tables_in}
 use Rattle.dumping.specs.Steps.{steps_text}
 use Rattle.std.specs.Option.{IfSome}
 use Rattle.dump_io.specs.Private.{Standing}
@@ -13,9 +14,9 @@ abbrev pub invariant-loop-next : goal.invariant-loop-next
 invariant-loop-next g l =
     IfSome l.next Standing
     × Told (g.W.Write.contents l.initial.to) (g.W.Write.contents l.to) l.next
-    (record { lookup = l.lookup; frequencies = l.frequencies; bits = l.bits; orders = l.orders; coefficients = l.coefficients })
+    (tables_in l.tables)
     l.input
-    (steps_text (suc (length l.input)) (record { state = started; tables = record { lookup = l.initial.lookup; frequencies = l.initial.frequencies; bits = l.initial.bits; orders = l.initial.orders; coefficients = l.initial.coefficients } }) l.input 0)
+    (steps_text (suc (length l.input)) (record { state = started; tables = tables_in l.initial.tables }) l.input 0)
 
 abbrev pub decreases-loop-next : goal.decreases-loop-next
 decreases-loop-next g l = left l.next (length l.input)
