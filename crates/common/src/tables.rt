@@ -48,26 +48,6 @@ impl<'a> TableSet<'a> {
     }
 }
 
-// The same of five parts. Goes when nothing calls it.
-pub fn tables_pass(
-    lookup: &[u8],
-    frequencies: &[u16],
-    bits: &[u16],
-    orders: &[u16],
-    coefficients: &[u16],
-) -> bool
-    ensures { result ≡ tables_pass (record { lookup = lookup.now; frequencies = frequencies.now; bits = bits.now; orders = orders.now; coefficients = coefficients.now }) }
-{
-    let set = TableSet {
-        lookup,
-        frequencies,
-        bits,
-        orders,
-        coefficients,
-    };
-    set.passes()
-}
-
 fn lookup_passes(lookup: &[u8]) -> bool
     ensures { result ≡ lookup_passes lookup.now }
 {
