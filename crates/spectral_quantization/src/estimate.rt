@@ -168,14 +168,7 @@ fn run(tables: &PassedSet, frame: Frame, lines: &[i16], pairs: usize) -> Running
 }
 
 // The running numbers behind one pair more.
-fn on_pair(
-    tables: &PassedSet,
-    frame: Frame,
-    p: usize,
-    a: usize,
-    b: usize,
-    s: Running,
-) -> Running
+fn on_pair(tables: &PassedSet, frame: Frame, p: usize, a: usize, b: usize, s: Running) -> Running
     requires { (frame.rate ≤ 512) × (p < 200) × (a ≤ 32768) × (b ≤ 32768) × Bounded p s }
     ensures value { result ≡ on_pair tables.now.lookup.now tables.now.bits.now frame p a b s }
     ensures bounds { Bounded (p + 1) result }
@@ -200,14 +193,7 @@ fn on_pair(
     }
 }
 
-fn pair_cost(
-    tables: &PassedSet,
-    mode: bool,
-    start: usize,
-    a: usize,
-    b: usize,
-    n: usize,
-) -> u32
+fn pair_cost(tables: &PassedSet, mode: bool, start: usize, a: usize, b: usize, n: usize) -> u32
     requires { (start < 1024) × (a ≤ 32768) × (b ≤ 32768) × (n ≡ escapes a b) }
     ensures value { result ≡ pair_cost tables.now.lookup.now tables.now.bits.now mode start a b }
     ensures most { result ≤ 1044465 }

@@ -1,11 +1,10 @@
 -- `inner::step` meets its contract: a field that was found is printed and taken as the definition says; its text and its tables.
 -- Assumes nothing.
-use Rattle.std.proofs.Common.{sym, ap, ◌∙◌, ◌≡◌, List, ℕ}
+use Rattle.std.proofs.Common.{sym, ap, ◌∙◌}
 use Rattle.std.proofs.lemmas.List.Edits.{sets}
-use Rattle.common.specs.Reply.{accepted}
-use Rattle.recording.specs.Tagged.{found, field_at, answer_of}
+use Rattle.recording.specs.Tagged.{answer_of}
 use Rattle.dumping.specs.Tables.{tables_in}
-use Rattle.dumping.specs.Dump.{Held, dump_most}
+use Rattle.dumping.specs.Dump.{Held}
 use Rattle.dumping.specs.Steps.{Step}
 use Rattle.dumping.proofs.Parts.{step-found}
 use Rattle.dumping.proofs.inner.step.Goals as goal

@@ -1,7 +1,7 @@
 -- `writer::write_frame` meets its contract: 18 is judged before anything else, a refused frame leaves the part behind the header as it
 -- was, and the header is laid only before a frame that is written. Assumes nothing.
 use Prim.Native.Nat.{ℕ, ◌+◌, ◌-◌}
-use mathlib.Core.Path.{◌≡◌, refl, sym, ap, ◌∙◌}
+use mathlib.Core.Path.{◌≡◌, refl, ap, ◌∙◌}
 use mathlib.Core.Bool.{true}
 use mathlib.Core.List.{List}
 use native.Mathlib.Omega.{arith}

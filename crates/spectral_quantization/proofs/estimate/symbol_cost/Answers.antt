@@ -1,8 +1,7 @@
 -- `estimate::symbol_cost` meets its contract: a row of the lookup is at most 63, so its 17 entries lie within the 1,088.
 -- Assumes nothing.
-use Prim.Native.Nat.{◌+◌, ◌*◌, ◌≤◌, ◌<◌}
+use Prim.Native.Nat.{◌≤◌}
 use native.Mathlib.Omega.{arith}
-use lib.ListN.{get_or}
 use Rattle.common.proofs.Sets.{lookup-passed, bits-passed}
 use Rattle.contexts.proofs.Lookups.{row_low}
 use Rattle.spectral_quantization.proofs.estimate.symbol_cost.Goals as goal
