@@ -13,16 +13,23 @@ use lib.ListN.{length, take, drop, length-drop}
 use lib.Seq.{length-take-le, take-append_seam, drop-append_seam}
 use lib.Dec.{ltb}
 use lib.IntN.{ℤ}
-use Rattle.common.specs.Reply.{Reply, Answer, accepted, refused, tables_fail, wrong_count}
-use Rattle.common.specs.Configuration.{frame_lines, frame_lines_of}
+use mir.Val.{bool_byte}
+use Rattle.std.specs.Prelude.{Result, Ok, Err}
+use Rattle.std.specs.Result.{is_ok}
+use Rattle.common.specs.Reply.{Reply, Answer, accepted, refused, answer_by, tables_fail, wrong_count}
+use Rattle.common.specs.Configuration.{frame_lines, reply_of}
 use Rattle.common.specs.Tables.{Tables, tables_pass}
 use Rattle.common.specs.declared.configuration.Configuration.{Configuration}
-use Rattle.common.specs.declared.configuration.FrameLines.{FrameLines}
-use Rattle.common.specs.declared.configuration.FrameLines.TheVariants.{Encoded, OutsideLimits, WrongLength}
+use Rattle.common.specs.declared.configuration.ConfigurationError.{ConfigurationError}
 use Rattle.frame_reader.specs.Frame.{Frame, read_frame}
 use Rattle.frame_reader.specs.Returned.{lines_behind, told}
 use Rattle.frame_reader.proofs.Whole.{lines-refused, tables-refused, count-refused}
 use Rattle.host.specs.Many.{one_if_read, accepted_of, lines_after}
+
+-- a call's result is `Ok` exactly where its answer is accepted
+pub ok-read : {A E : Type 0} (says : E → Reply) (r : Result A E) → bool_byte (is_ok r) ≡ one_if_read (answer_by says r)
+ok-read says (Ok a) = refl
+ok-read says (Err e) = refl
 
 pub read_told : (reading : ℕ) (a : Answer Frame) → one_if_read (told reading a) ≡ one_if_read a
 read_told reading (accepted fr) = refl
@@ -106,10 +113,9 @@ module _ (k : Configuration) (t : Tables) (count bytes : ℕ) (frames : List ℕ
   lines-nothing {r} e = nothing (λ g s. (r, lines-refused k t count g (ap (λ (n : ℕ). frame_lines k n) s ∙ e)))
 
   -- no lines are what the checks answer
-  pub unencoded-nothing : (r : FrameLines) → frame_lines_of r ≡ frame_lines k bytes → ((ne : ℕ) → r ≡ Encoded ne → ⊥) → Nothing
-  unencoded-nothing (Encoded ne) e none = absurd (none ne refl)
-  unencoded-nothing OutsideLimits e none = lines-nothing (sym e)
-  unencoded-nothing (WrongLength n) e none = lines-nothing (sym e)
+  pub unencoded-nothing : (r : Result ℕ ConfigurationError) → answer_by reply_of r ≡ frame_lines k bytes → ((ne : ℕ) → r ≡ Ok ne → ⊥) → Nothing
+  unencoded-nothing (Ok ne) e none = absurd (none ne refl)
+  unencoded-nothing (Err r) e none = lines-nothing (sym e)
 
   module _ (ne : ℕ) (e : frame_lines k bytes ≡ accepted ne) where
     pub tables-nothing : tables_pass t ≡ false → Nothing

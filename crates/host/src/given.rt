@@ -1,8 +1,10 @@
 // What a host gives of a frame that is to be written.
 ghost use Rattle.std.specs.Prelude.{◌≡◌, get_or};
-ghost use Rattle.host.specs.Given.{side_of, places_of};
+ghost use Rattle.frame_writer.specs.Returned.{content_of as lent_content};
+ghost use Rattle.host.specs.Given.{side_of, places_of, content_of};
 
 use common::inner::lay;
+use frame_writer::Content;
 use side_info::{SideInfo, Sns};
 
 fn word(words: &[u32], k: usize) -> u32
@@ -27,7 +29,7 @@ fn sns(words: &[u32]) -> Sns
     }
 }
 
-pub(crate) fn side(words: &[u32]) -> SideInfo
+fn side(words: &[u32]) -> SideInfo
     ensures { result ≡ side_of words.now }
 {
     SideInfo {
@@ -45,10 +47,30 @@ pub(crate) fn side(words: &[u32]) -> SideInfo
     }
 }
 
-pub(crate) fn places(indices: &[usize]) -> [usize; 16]
+fn places(indices: &[usize]) -> [usize; 16]
     ensures { result ≡ places_of indices.now }
 {
     let mut found = [0; 16];
     lay(&mut found, indices);
     found
+}
+
+pub(crate) fn content<'a>(
+    words: &[u32],
+    first_order: usize,
+    second_order: usize,
+    indices: &[usize],
+    lines: &'a [i16],
+    residual: &'a [u8],
+) -> Content<'a>
+    ensures { lent_content result ≡ content_of words.now first_order second_order indices.now lines.now residual.now }
+{
+    Content {
+        side: side(words),
+        first_order,
+        second_order,
+        indices: places(indices),
+        lines,
+        residual,
+    }
 }

@@ -3,7 +3,7 @@
 
 ghost use Rattle.std.specs.Prelude.{◌≡◌, cond, ◌/◌, length};
 ghost use Rattle.common.specs.Flat.{flat_lookup, flat_rows, flat_bits, flat_orders};
-ghost use Rattle.common.specs.Tables.{tables_pass};
+ghost use Rattle.common.specs.Tables.{tables_of, tables_pass};
 ghost use Rattle.frame_reader.specs.Frame.{read_frame};
 ghost use Rattle.frame_reader.specs.Returned.{told as Returned·told, lines_behind};
 ghost use Rattle.frame_writer.specs.Frame.{write_frame};
@@ -18,7 +18,8 @@ mod many;
 mod tell;
 mod told;
 
-use common::configuration::{Configuration, FrameLines};
+use common::configuration::Configuration;
+use common::table_set::TableSet;
 
 // Reads one frame: 0 where it is accepted, else the refusal's number. What else there is to tell is laid over the lent slices.
 pub fn lc3_read_frame(
@@ -37,28 +38,26 @@ pub fn lc3_read_frame(
     indices: &mut [usize],
     residual: &mut [u8],
 ) -> u32
-    ensures number { result ≡ number_of (read_frame (record { fs_ind = fs_ind; duration = duration; reading = reading }) (record { lookup = lookup.entry.now; frequencies = frequencies.now; bits = bits.now; orders = orders.now; coefficients = coefficients.now }) (length lines.old) frame.now) }
-    ensures lent { lines.new ≡ lines_behind (read_frame (record { fs_ind = fs_ind; duration = duration; reading = reading }) (record { lookup = lookup.entry.now; frequencies = frequencies.now; bits = bits.now; orders = orders.now; coefficients = coefficients.now }) (length lines.old) frame.now) lines.old }
-    ensures record_and_sums { words.new ≡ words_behind (Returned·told reading (read_frame (record { fs_ind = fs_ind; duration = duration; reading = reading }) (record { lookup = lookup.entry.now; frequencies = frequencies.now; bits = bits.now; orders = orders.now; coefficients = coefficients.now }) (length lines.old) frame.now)) words.old }
-    ensures counts_or_place { numbers.new ≡ numbers_behind (Returned·told reading (read_frame (record { fs_ind = fs_ind; duration = duration; reading = reading }) (record { lookup = lookup.entry.now; frequencies = frequencies.now; bits = bits.now; orders = orders.now; coefficients = coefficients.now }) (length lines.old) frame.now)) numbers.old }
-    ensures tns { indices.new ≡ indices_behind (read_frame (record { fs_ind = fs_ind; duration = duration; reading = reading }) (record { lookup = lookup.entry.now; frequencies = frequencies.now; bits = bits.now; orders = orders.now; coefficients = coefficients.now }) (length lines.old) frame.now) indices.old }
-    ensures list { residual.new ≡ residual_behind (read_frame (record { fs_ind = fs_ind; duration = duration; reading = reading }) (record { lookup = lookup.entry.now; frequencies = frequencies.now; bits = bits.now; orders = orders.now; coefficients = coefficients.now }) (length lines.old) frame.now) residual.old }
+    ensures number { result ≡ number_of (read_frame (record { fs_ind = fs_ind; duration = duration; reading = reading }) (tables_of lookup.now frequencies.now bits.now orders.now coefficients.now) (length lines.old) frame.now) }
+    ensures lent { lines.new ≡ lines_behind (read_frame (record { fs_ind = fs_ind; duration = duration; reading = reading }) (tables_of lookup.now frequencies.now bits.now orders.now coefficients.now) (length lines.old) frame.now) lines.old }
+    ensures record_and_sums { words.new ≡ words_behind (Returned·told reading (read_frame (record { fs_ind = fs_ind; duration = duration; reading = reading }) (tables_of lookup.now frequencies.now bits.now orders.now coefficients.now) (length lines.old) frame.now)) words.old }
+    ensures counts_or_place { numbers.new ≡ numbers_behind (Returned·told reading (read_frame (record { fs_ind = fs_ind; duration = duration; reading = reading }) (tables_of lookup.now frequencies.now bits.now orders.now coefficients.now) (length lines.old) frame.now)) numbers.old }
+    ensures tns { indices.new ≡ indices_behind (read_frame (record { fs_ind = fs_ind; duration = duration; reading = reading }) (tables_of lookup.now frequencies.now bits.now orders.now coefficients.now) (length lines.old) frame.now) indices.old }
+    ensures list { residual.new ≡ residual_behind (read_frame (record { fs_ind = fs_ind; duration = duration; reading = reading }) (tables_of lookup.now frequencies.now bits.now orders.now coefficients.now) (length lines.old) frame.now) residual.old }
 {
     let configuration = Configuration {
         fs_ind,
         duration,
         reading,
     };
-    let answer = frame_reader::read(
-        configuration,
+    let tables = TableSet {
         lookup,
         frequencies,
         bits,
         orders,
         coefficients,
-        frame,
-        lines,
-    );
+    };
+    let answer = frame_reader::read(configuration, &tables, frame, lines);
     tell::tell(answer, words, numbers, indices, residual)
 }
 
@@ -81,32 +80,24 @@ pub fn lc3_write_frame(
     frame: &mut [u8],
     numbers: &mut [usize],
 ) -> u32
-    ensures number { result ≡ number_of (write_frame (record { fs_ind = fs_ind; duration = duration; reading = reading }) (record { lookup = lookup.entry.now; frequencies = frequencies.now; bits = bits.now; orders = orders.now; coefficients = coefficients.now }) (content_of words.now first_order second_order indices.now lines.now residual.now) (length frame.old)) }
-    ensures lent { frame.new ≡ frame_behind (write_frame (record { fs_ind = fs_ind; duration = duration; reading = reading }) (record { lookup = lookup.entry.now; frequencies = frequencies.now; bits = bits.now; orders = orders.now; coefficients = coefficients.now }) (content_of words.now first_order second_order indices.now lines.now residual.now) (length frame.old)) frame.old }
-    ensures place { numbers.new ≡ place_behind (write_frame (record { fs_ind = fs_ind; duration = duration; reading = reading }) (record { lookup = lookup.entry.now; frequencies = frequencies.now; bits = bits.now; orders = orders.now; coefficients = coefficients.now }) (content_of words.now first_order second_order indices.now lines.now residual.now) (length frame.old)) numbers.old }
+    ensures number { result ≡ number_of (write_frame (record { fs_ind = fs_ind; duration = duration; reading = reading }) (tables_of lookup.now frequencies.now bits.now orders.now coefficients.now) (content_of words.now first_order second_order indices.now lines.now residual.now) (length frame.old)) }
+    ensures lent { frame.new ≡ frame_behind (write_frame (record { fs_ind = fs_ind; duration = duration; reading = reading }) (tables_of lookup.now frequencies.now bits.now orders.now coefficients.now) (content_of words.now first_order second_order indices.now lines.now residual.now) (length frame.old)) frame.old }
+    ensures place { numbers.new ≡ place_behind (write_frame (record { fs_ind = fs_ind; duration = duration; reading = reading }) (tables_of lookup.now frequencies.now bits.now orders.now coefficients.now) (content_of words.now first_order second_order indices.now lines.now residual.now) (length frame.old)) numbers.old }
 {
     let configuration = Configuration {
         fs_ind,
         duration,
         reading,
     };
-    let side = given::side(words);
-    let places = given::places(indices);
-    let answer = frame_writer::write(
-        configuration,
+    let tables = TableSet {
         lookup,
         frequencies,
         bits,
         orders,
         coefficients,
-        side,
-        first_order,
-        second_order,
-        places,
-        lines,
-        residual,
-        frame,
-    );
+    };
+    let content = given::content(words, first_order, second_order, indices, lines, residual);
+    let answer = frame_writer::write(configuration, &tables, &content, frame);
     tell::tell_written(answer, numbers)
 }
 
@@ -131,33 +122,30 @@ pub fn lc3_write_field(
     bytes: usize,
     numbers: &mut [usize],
 ) -> u32
-    ensures number { result ≡ number_of (write_field (record { fs_ind = fs_ind; duration = duration; reading = reading }) (record { lookup = lookup.entry.now; frequencies = frequencies.now; bits = bits.now; orders = orders.now; coefficients = coefficients.now }) (content_of words.now first_order second_order indices.now lines.now residual.now) bytes (length buffer.old) offset) }
-    ensures lent { buffer.new ≡ buffer_behind (write_field (record { fs_ind = fs_ind; duration = duration; reading = reading }) (record { lookup = lookup.entry.now; frequencies = frequencies.now; bits = bits.now; orders = orders.now; coefficients = coefficients.now }) (content_of words.now first_order second_order indices.now lines.now residual.now) bytes (length buffer.old) offset) offset buffer.old }
-    ensures next_or_place { numbers.new ≡ next_or_place (end_behind (write_field (record { fs_ind = fs_ind; duration = duration; reading = reading }) (record { lookup = lookup.entry.now; frequencies = frequencies.now; bits = bits.now; orders = orders.now; coefficients = coefficients.now }) (content_of words.now first_order second_order indices.now lines.now residual.now) bytes (length buffer.old) offset) offset) numbers.old }
+    ensures number { result ≡ number_of (write_field (record { fs_ind = fs_ind; duration = duration; reading = reading }) (tables_of lookup.now frequencies.now bits.now orders.now coefficients.now) (content_of words.now first_order second_order indices.now lines.now residual.now) bytes (length buffer.old) offset) }
+    ensures lent { buffer.new ≡ buffer_behind (write_field (record { fs_ind = fs_ind; duration = duration; reading = reading }) (tables_of lookup.now frequencies.now bits.now orders.now coefficients.now) (content_of words.now first_order second_order indices.now lines.now residual.now) bytes (length buffer.old) offset) offset buffer.old }
+    ensures next_or_place { numbers.new ≡ next_or_place (end_behind (write_field (record { fs_ind = fs_ind; duration = duration; reading = reading }) (tables_of lookup.now frequencies.now bits.now orders.now coefficients.now) (content_of words.now first_order second_order indices.now lines.now residual.now) bytes (length buffer.old) offset) offset) numbers.old }
 {
     let configuration = Configuration {
         fs_ind,
         duration,
         reading,
     };
-    let side = given::side(words);
-    let places = given::places(indices);
-    let answer = recording::writer::write_frame(
-        buffer,
-        offset,
-        bytes,
-        configuration,
+    let tables = TableSet {
         lookup,
         frequencies,
         bits,
         orders,
         coefficients,
-        side,
-        first_order,
-        second_order,
-        places,
-        lines,
-        residual,
+    };
+    let content = given::content(words, first_order, second_order, indices, lines, residual);
+    let answer = recording::writer::write_frame(
+        buffer,
+        offset,
+        bytes,
+        configuration,
+        &tables,
+        &content,
     );
     tell::tell_field(answer, numbers)
 }
@@ -170,9 +158,16 @@ pub fn lc3_tables_pass(
     orders: &[u16],
     coefficients: &[u16],
 ) -> u32
-    ensures { result ≡ cond (tables_pass (record { lookup = lookup.entry.now; frequencies = frequencies.now; bits = bits.now; orders = orders.now; coefficients = coefficients.now })) 1 0 }
+    ensures { result ≡ cond (tables_pass (tables_of lookup.now frequencies.now bits.now orders.now coefficients.now)) 1 0 }
 {
-    u32::from(common::tables::tables_pass(lookup, frequencies, bits, orders, coefficients))
+    let tables = TableSet {
+        lookup,
+        frequencies,
+        bits,
+        orders,
+        coefficients,
+    };
+    u32::from(tables.passes())
 }
 
 // Fills the flat set into the lent slices, each as far as it is long.
@@ -206,33 +201,29 @@ pub fn lc3_read_frames(
     bytes: usize,
     lines: &mut [i32],
 ) -> usize
-    ensures number { result ≡ accepted_of (read_frame (record { fs_ind = fs_ind; duration = duration; reading = reading }) (record { lookup = lookup.entry.now; frequencies = frequencies.now; bits = bits.now; orders = orders.now; coefficients = coefficients.now }) (length lines.old)) (length frames.now / bytes) bytes frames.now }
-    ensures lent { lines.new ≡ lines_after (read_frame (record { fs_ind = fs_ind; duration = duration; reading = reading }) (record { lookup = lookup.entry.now; frequencies = frequencies.now; bits = bits.now; orders = orders.now; coefficients = coefficients.now }) (length lines.old)) (length frames.now / bytes) bytes frames.now lines.old }
+    ensures number { result ≡ accepted_of (read_frame (record { fs_ind = fs_ind; duration = duration; reading = reading }) (tables_of lookup.now frequencies.now bits.now orders.now coefficients.now) (length lines.old)) (length frames.now / bytes) bytes frames.now }
+    ensures lent { lines.new ≡ lines_after (read_frame (record { fs_ind = fs_ind; duration = duration; reading = reading }) (tables_of lookup.now frequencies.now bits.now orders.now coefficients.now) (length lines.old)) (length frames.now / bytes) bytes frames.now lines.old }
 {
     let configuration = Configuration {
         fs_ind,
         duration,
         reading,
     };
-    let FrameLines::Encoded(ne) = configuration.frame_lines(bytes) else {
-        return 0;
-    };
-    if !common::tables::tables_pass(lookup, frequencies, bits, orders, coefficients) {
-        return 0;
-    }
-    if lines.len() < ne {
-        return 0;
-    }
-    many::read_each(
-        configuration,
-        ne,
+    let tables = TableSet {
         lookup,
         frequencies,
         bits,
         orders,
         coefficients,
-        frames,
-        bytes,
-        lines,
-    )
+    };
+    let Ok(ne) = configuration.frame_lines(bytes) else {
+        return 0;
+    };
+    let Some(passed) = tables.passed() else {
+        return 0;
+    };
+    if lines.len() < ne {
+        return 0;
+    }
+    many::read_each(configuration, ne, &passed, frames, bytes, lines)
 }

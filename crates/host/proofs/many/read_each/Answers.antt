@@ -5,12 +5,12 @@ use mathlib.Core.Path.{◌≡◌, sym, ap, ◌∙◌}
 use mathlib.Core.List.{◌++◌}
 use native.Mathlib.Omega.{arith}
 use lib.ListN.{length}
-use Rattle.common.specs.Configuration.{frame_lines}
 use Rattle.common.proofs.Configurations.{frame-ranges}
+use Rattle.common.specs.TableSets.{passed_of}
+use Rattle.frame_reader.specs.Frame.{read_frame}
 use Rattle.frame_reader.specs.Returned.{lines_behind}
 use Rattle.host.specs.Many.{one_if_read, lines_after}
 use Rattle.host.proofs.Frames.{one_more, accepted-turn, accepted-end, lines-turn, lines_end}
-use Rattle.host.proofs.many.read_each.Invariants.{answer}
 use Rattle.host.proofs.many.read_each.Goals as goal
 use Rattle.host.proofs.many.read_each.Goals.{Start, In-Some}
 
@@ -25,19 +25,8 @@ parted c = (c.in-Some.ensures.steps.1.1 ∙ c.loop-frame.invariant.0, c.in-Some.
 -- so one more of those that fit is left
 left_more : (c : In-Some) → length c.loop-frame.frame-iterator.rest.now / c.args.bytes ≡ length c.next.new.self.rest.now / c.args.bytes + 1
 left_more c =
-    rw ((parted c).1, one_more (answer c.args.configuration c.args.lookup.now c.args.frequencies.now c.args.bits.now c.args.orders.now c.args.coefficients.now 0) c.args.bytes c.in-Some.frame.now c.next.new.self.rest.now (some (goal.at.In-Some c).Start) (parted c).0)
+    rw ((parted c).1, one_more (read_frame c.args.configuration (passed_of c.args.tables.now) 0) c.args.bytes c.in-Some.frame.now c.next.new.self.rest.now (some (goal.at.In-Some c).Start) (parted c).0)
     (omega arith)
-
-pub chunks_exact-frame-items-requires : goal.chunks_exact-frame-items-requires
-chunks_exact-frame-items-requires c = omega (arith, some (goal.at.chunks_exact-frame-items-requires c).Start)
-
-pub read_one-read-requires : goal.read_one-read-requires
-read_one-read-requires c =
-    let p = parted (goal.at.read_one-read-requires c).In-Some in
-    (ap (λ (n : ℕ). frame_lines c.args.configuration n) p.0 ∙ c.requires.0, c.requires.1, omega (arith, c.loop-frame.invariant.1, c.requires.2))
-
-pub overflow_add-read : goal.overflow_add-read
-overflow_add-read c = omega (arith, left_more (goal.at.overflow_add-read c).In-Some, c.read_one-read.ensures.low, c.loop-frame.invariant.2)
 
 pub loop-frame-preserved : goal.loop-frame-preserved
 loop-frame-preserved c =
@@ -46,7 +35,7 @@ loop-frame-preserved c =
     let p = parted i in
     let x = c.in-Some.frame.now in
     let rest = c.next.new.self.rest.now in
-    let each = answer a.configuration a.lookup.now a.frequencies.now a.bits.now a.orders.now a.coefficients.now in
+    let each = read_frame a.configuration (passed_of a.tables.now) in
     let read = each (length a.lines.now) in
     let n = some (goal.at.In-Some i).Start in
     let number = c.read_one-read.ensures.number ∙ ap (λ (n : ℕ). one_if_read (each n x)) c.loop-frame.invariant.1 in
@@ -63,7 +52,7 @@ loop-frame-preserved c =
 pub returns : goal.returns
 returns c =
     let a = c.args in
-    let read = answer a.configuration a.lookup.now a.frequencies.now a.bits.now a.orders.now a.coefficients.now (length a.lines.now) in
+    let read = read_frame a.configuration (passed_of a.tables.now) (length a.lines.now) in
     let rest = c.loop-frame.frame-iterator.rest.now in
     let few : length rest < a.bytes = omega (arith, c.in-None.ensures.steps.1.0, c.loop-frame.invariant.0) in record {
       number = omega (arith, accepted-end read a.bytes rest few, c.loop-frame.invariant.3);

@@ -3,19 +3,20 @@
 use mathlib.Core.Path.{sym, ap, ◌∙◌}
 use borrow.Author.Tests.{le-ltb}
 use lib.ListN.{length}
-use Rattle.common.specs.Tables.{Tables}
+use Rattle.common.specs.TableSets.{passed_of}
 use Rattle.frame_reader.specs.Frame.{read_frame}
 use Rattle.frame_reader.specs.Private.{shown}
+use Rattle.frame_reader.specs.Returned.{reply_of}
 use Rattle.frame_reader.proofs.Whole.{read-on, shown-parts}
 use Rattle.host.specs.Many.{one_if_read}
-use Rattle.host.proofs.Frames.{read_told}
+use Rattle.host.proofs.Frames.{ok-read, read_told}
 use Rattle.host.proofs.many.read_one.Goals as goal
 
 pub returns-clause-number : goal.returns-clause-number
 returns-clause-number c =
     let a = c.args in
-    let t : Tables = (record { lookup = a.lookup.now; frequencies = a.frequencies.now; bits = a.bits.now; orders = a.orders.now; coefficients = a.coefficients.now }) in
+    let t = passed_of a.tables.now in
     let whole = read_frame a.configuration t (length a.lines.now) a.frame.now in
     let parts = shown-parts a.configuration.reading c.read-answer.result c.read-answer.new.lines a.lines.now whole
-    (c.read-answer.ensures ∙ ap (λ r. shown a.configuration.reading r a.lines.now) (sym (read-on a.configuration t (length a.lines.now) a.frame.now a.ne c.requires.0 c.requires.1 (le-ltb (length a.lines.now) a.ne c.requires.2)))) in
-    c.one_if_read.ensures.number ∙ ap one_if_read parts.0 ∙ read_told a.configuration.reading whole
+    (c.read-answer.ensures ∙ ap (λ r. shown a.configuration.reading r a.lines.now) (sym (read-on a.configuration t (length a.lines.now) a.frame.now a.ne c.requires.0 a.tables.now.passed (le-ltb (length a.lines.now) a.ne c.requires.1)))) in
+    rw (c.from.ensures, c.is_ok.ensures.value) (ok-read reply_of c.read-answer.result.outcome ∙ ap one_if_read parts.0 ∙ read_told a.configuration.reading whole)
