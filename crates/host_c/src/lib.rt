@@ -3,7 +3,7 @@
 
 ghost use Rattle.std.specs.Prelude.{◌≡◌, cond, ◌/◌, length};
 ghost use Rattle.common.specs.Flat.{flat_lookup, flat_rows, flat_bits, flat_orders};
-ghost use Rattle.common.specs.Tables.{tables_pass};
+ghost use Rattle.common.specs.Tables.{tables_of, tables_pass};
 ghost use Rattle.frame_reader.specs.Frame.{read_frame};
 ghost use Rattle.frame_reader.specs.Returned.{told as Returned·told, lines_behind};
 ghost use Rattle.frame_writer.specs.Frame.{write_frame};
@@ -31,12 +31,12 @@ pub extern "C" fn lc3_read_frame(
     indices: &mut [usize],
     residual: &mut [u8],
 ) -> u32
-    ensures number { result ≡ number_of (read_frame (record { fs_ind = fs_ind; duration = duration; reading = reading }) (record { lookup = lookup.entry.now; frequencies = frequencies.now; bits = bits.now; orders = orders.now; coefficients = coefficients.now }) (length lines.old) frame.now) }
-    ensures lent { lines.new ≡ lines_behind (read_frame (record { fs_ind = fs_ind; duration = duration; reading = reading }) (record { lookup = lookup.entry.now; frequencies = frequencies.now; bits = bits.now; orders = orders.now; coefficients = coefficients.now }) (length lines.old) frame.now) lines.old }
-    ensures record_and_sums { words.new ≡ words_behind (Returned·told reading (read_frame (record { fs_ind = fs_ind; duration = duration; reading = reading }) (record { lookup = lookup.entry.now; frequencies = frequencies.now; bits = bits.now; orders = orders.now; coefficients = coefficients.now }) (length lines.old) frame.now)) words.old }
-    ensures counts_or_place { numbers.new ≡ numbers_behind (Returned·told reading (read_frame (record { fs_ind = fs_ind; duration = duration; reading = reading }) (record { lookup = lookup.entry.now; frequencies = frequencies.now; bits = bits.now; orders = orders.now; coefficients = coefficients.now }) (length lines.old) frame.now)) numbers.old }
-    ensures tns { indices.new ≡ indices_behind (read_frame (record { fs_ind = fs_ind; duration = duration; reading = reading }) (record { lookup = lookup.entry.now; frequencies = frequencies.now; bits = bits.now; orders = orders.now; coefficients = coefficients.now }) (length lines.old) frame.now) indices.old }
-    ensures list { residual.new ≡ residual_behind (read_frame (record { fs_ind = fs_ind; duration = duration; reading = reading }) (record { lookup = lookup.entry.now; frequencies = frequencies.now; bits = bits.now; orders = orders.now; coefficients = coefficients.now }) (length lines.old) frame.now) residual.old }
+    ensures number { result ≡ number_of (read_frame (record { fs_ind = fs_ind; duration = duration; reading = reading }) (tables_of lookup.now frequencies.now bits.now orders.now coefficients.now) (length lines.old) frame.now) }
+    ensures lent { lines.new ≡ lines_behind (read_frame (record { fs_ind = fs_ind; duration = duration; reading = reading }) (tables_of lookup.now frequencies.now bits.now orders.now coefficients.now) (length lines.old) frame.now) lines.old }
+    ensures record_and_sums { words.new ≡ words_behind (Returned·told reading (read_frame (record { fs_ind = fs_ind; duration = duration; reading = reading }) (tables_of lookup.now frequencies.now bits.now orders.now coefficients.now) (length lines.old) frame.now)) words.old }
+    ensures counts_or_place { numbers.new ≡ numbers_behind (Returned·told reading (read_frame (record { fs_ind = fs_ind; duration = duration; reading = reading }) (tables_of lookup.now frequencies.now bits.now orders.now coefficients.now) (length lines.old) frame.now)) numbers.old }
+    ensures tns { indices.new ≡ indices_behind (read_frame (record { fs_ind = fs_ind; duration = duration; reading = reading }) (tables_of lookup.now frequencies.now bits.now orders.now coefficients.now) (length lines.old) frame.now) indices.old }
+    ensures list { residual.new ≡ residual_behind (read_frame (record { fs_ind = fs_ind; duration = duration; reading = reading }) (tables_of lookup.now frequencies.now bits.now orders.now coefficients.now) (length lines.old) frame.now) residual.old }
 {
     host::lc3_read_frame(
         fs_ind,
@@ -76,9 +76,9 @@ pub extern "C" fn lc3_write_frame(
     frame: &mut [u8],
     numbers: &mut [usize],
 ) -> u32
-    ensures number { result ≡ number_of (write_frame (record { fs_ind = fs_ind; duration = duration; reading = reading }) (record { lookup = lookup.entry.now; frequencies = frequencies.now; bits = bits.now; orders = orders.now; coefficients = coefficients.now }) (content_of words.now first_order second_order indices.now lines.now residual.now) (length frame.old)) }
-    ensures lent { frame.new ≡ frame_behind (write_frame (record { fs_ind = fs_ind; duration = duration; reading = reading }) (record { lookup = lookup.entry.now; frequencies = frequencies.now; bits = bits.now; orders = orders.now; coefficients = coefficients.now }) (content_of words.now first_order second_order indices.now lines.now residual.now) (length frame.old)) frame.old }
-    ensures place { numbers.new ≡ place_behind (write_frame (record { fs_ind = fs_ind; duration = duration; reading = reading }) (record { lookup = lookup.entry.now; frequencies = frequencies.now; bits = bits.now; orders = orders.now; coefficients = coefficients.now }) (content_of words.now first_order second_order indices.now lines.now residual.now) (length frame.old)) numbers.old }
+    ensures number { result ≡ number_of (write_frame (record { fs_ind = fs_ind; duration = duration; reading = reading }) (tables_of lookup.now frequencies.now bits.now orders.now coefficients.now) (content_of words.now first_order second_order indices.now lines.now residual.now) (length frame.old)) }
+    ensures lent { frame.new ≡ frame_behind (write_frame (record { fs_ind = fs_ind; duration = duration; reading = reading }) (tables_of lookup.now frequencies.now bits.now orders.now coefficients.now) (content_of words.now first_order second_order indices.now lines.now residual.now) (length frame.old)) frame.old }
+    ensures place { numbers.new ≡ place_behind (write_frame (record { fs_ind = fs_ind; duration = duration; reading = reading }) (tables_of lookup.now frequencies.now bits.now orders.now coefficients.now) (content_of words.now first_order second_order indices.now lines.now residual.now) (length frame.old)) numbers.old }
 {
     host::lc3_write_frame(
         fs_ind,
@@ -122,9 +122,9 @@ pub extern "C" fn lc3_write_field(
     bytes: usize,
     numbers: &mut [usize],
 ) -> u32
-    ensures number { result ≡ number_of (write_field (record { fs_ind = fs_ind; duration = duration; reading = reading }) (record { lookup = lookup.entry.now; frequencies = frequencies.now; bits = bits.now; orders = orders.now; coefficients = coefficients.now }) (content_of words.now first_order second_order indices.now lines.now residual.now) bytes (length buffer.old) offset) }
-    ensures lent { buffer.new ≡ buffer_behind (write_field (record { fs_ind = fs_ind; duration = duration; reading = reading }) (record { lookup = lookup.entry.now; frequencies = frequencies.now; bits = bits.now; orders = orders.now; coefficients = coefficients.now }) (content_of words.now first_order second_order indices.now lines.now residual.now) bytes (length buffer.old) offset) offset buffer.old }
-    ensures next_or_place { numbers.new ≡ next_or_place (end_behind (write_field (record { fs_ind = fs_ind; duration = duration; reading = reading }) (record { lookup = lookup.entry.now; frequencies = frequencies.now; bits = bits.now; orders = orders.now; coefficients = coefficients.now }) (content_of words.now first_order second_order indices.now lines.now residual.now) bytes (length buffer.old) offset) offset) numbers.old }
+    ensures number { result ≡ number_of (write_field (record { fs_ind = fs_ind; duration = duration; reading = reading }) (tables_of lookup.now frequencies.now bits.now orders.now coefficients.now) (content_of words.now first_order second_order indices.now lines.now residual.now) bytes (length buffer.old) offset) }
+    ensures lent { buffer.new ≡ buffer_behind (write_field (record { fs_ind = fs_ind; duration = duration; reading = reading }) (tables_of lookup.now frequencies.now bits.now orders.now coefficients.now) (content_of words.now first_order second_order indices.now lines.now residual.now) bytes (length buffer.old) offset) offset buffer.old }
+    ensures next_or_place { numbers.new ≡ next_or_place (end_behind (write_field (record { fs_ind = fs_ind; duration = duration; reading = reading }) (tables_of lookup.now frequencies.now bits.now orders.now coefficients.now) (content_of words.now first_order second_order indices.now lines.now residual.now) bytes (length buffer.old) offset) offset) numbers.old }
 {
     host::lc3_write_field(
         fs_ind,
@@ -157,7 +157,7 @@ pub extern "C" fn lc3_tables_pass(
     orders: &[u16],
     coefficients: &[u16],
 ) -> u32
-    ensures { result ≡ cond (tables_pass (record { lookup = lookup.entry.now; frequencies = frequencies.now; bits = bits.now; orders = orders.now; coefficients = coefficients.now })) 1 0 }
+    ensures { result ≡ cond (tables_pass (tables_of lookup.now frequencies.now bits.now orders.now coefficients.now)) 1 0 }
 {
     host::lc3_tables_pass(lookup, frequencies, bits, orders, coefficients)
 }
@@ -195,8 +195,8 @@ pub extern "C" fn lc3_read_frames(
     bytes: usize,
     lines: &mut [i32],
 ) -> usize
-    ensures number { result ≡ accepted_of (read_frame (record { fs_ind = fs_ind; duration = duration; reading = reading }) (record { lookup = lookup.entry.now; frequencies = frequencies.now; bits = bits.now; orders = orders.now; coefficients = coefficients.now }) (length lines.old)) (length frames.now / bytes) bytes frames.now }
-    ensures lent { lines.new ≡ lines_after (read_frame (record { fs_ind = fs_ind; duration = duration; reading = reading }) (record { lookup = lookup.entry.now; frequencies = frequencies.now; bits = bits.now; orders = orders.now; coefficients = coefficients.now }) (length lines.old)) (length frames.now / bytes) bytes frames.now lines.old }
+    ensures number { result ≡ accepted_of (read_frame (record { fs_ind = fs_ind; duration = duration; reading = reading }) (tables_of lookup.now frequencies.now bits.now orders.now coefficients.now) (length lines.old)) (length frames.now / bytes) bytes frames.now }
+    ensures lent { lines.new ≡ lines_after (read_frame (record { fs_ind = fs_ind; duration = duration; reading = reading }) (tables_of lookup.now frequencies.now bits.now orders.now coefficients.now) (length lines.old)) (length frames.now / bytes) bytes frames.now lines.old }
 {
     host::lc3_read_frames(
         fs_ind,
