@@ -8,7 +8,7 @@ use native.Mathlib.Omega.{arith}
 use borrow.Author.Tests.{eqb-true}
 use lib.Dec.{leb, eqb}
 use lib.IntN.{pos, nat_abs}
-use lib.ListN.{length, get_or, replicate}
+use lib.ListN.{length, get_or}
 use Rattle.common.specs.Flat.{flat_set, tabulate}
 use Rattle.common.specs.Last.{last_below, floor_log2}
 use Rattle.common.specs.Reply.{Answer, accepted}

@@ -1,5 +1,5 @@
 -- Not needed to believe anything: what the proofs here speak by.
-use Rattle.std.specs.Prelude.{ℕ, ◌+◌, ◌*◌, ◌/◌, ◌≤◌, ◌≡◌, true, List, ◌++◌, length}
+use Rattle.std.specs.Prelude.{ℕ, ◌+◌, ◌*◌, ◌≤◌, ◌≡◌, true, List, ◌++◌, length}
 use Rattle.common.specs.Configuration.{frame_lines}
 use Rattle.common.specs.Reply.{accepted}
 use Rattle.common.specs.Tables.{Tables, tables_pass}

@@ -1,6 +1,6 @@
 -- What is written comes back, and what damage can do: the owner's third demand, as statements over the definitions that the public calls
 -- of frame reader and frame writer are proved equal to, for every table set that passes. proofs/Theorems.antt proves each.
-use Rattle.std.specs.Prelude.{ℕ, ◌+◌, ◌-◌, ◌*◌, ◌/◌, ◌%◌, ◌≤◌, ◌<◌, min, ◌≡◌, Bool, true, false, cond, List, [], ◌∷◌, ◌++◌, map, eqb, ℤ, nat_abs, length, take, replicate}
+use Rattle.std.specs.Prelude.{ℕ, ◌+◌, ◌-◌, ◌*◌, ◌/◌, ◌%◌, ◌≤◌, ◌<◌, min, ◌≡◌, Bool, true, false, cond, List, [], ◌++◌, map, eqb, ℤ, nat_abs, length, take, replicate}
 use Rattle.common.specs.Configuration.{ne}
 use Rattle.common.specs.Reply.{bit, Answer, accepted, refused, in_step, no_tail_room, residual_negative}
 use Rattle.common.specs.Tables.{Tables}
@@ -9,14 +9,13 @@ use Rattle.buffer_reader.specs.Steps.{Reading, found, next as ◌>>=◌}
 use Rattle.buffer_reader.specs.Tail.{tail_bit, Bytes}
 use Rattle.buffer_reader.specs.declared.Cursor.{Cursor}
 use Rattle.side_info.specs.Reader.{read_all}
-use Rattle.side_info.specs.declared.SideInfo.{SideInfo}
 use Rattle.contexts.specs.Contexts.{rate_flag}
 use Rattle.contexts.specs.Lines.{escapes_at}
 use Rattle.range_encoder.specs.Interval.{Interval, whole, behind}
 use Rattle.sending.specs.Sending.{Owner, side, low, sign, residual, lowest, late_sign}
-use Rattle.tns_data.specs.Tns.{Tns, read_tns, weighting_row}
+use Rattle.tns_data.specs.Tns.{read_tns, weighting_row}
 use Rattle.tns_data.specs.Sent.{tns_of}
-use Rattle.spectral_data.specs.Spectral.{Pair, read_pairs, lines_of}
+use Rattle.spectral_data.specs.Spectral.{read_pairs, lines_of}
 use Rattle.spectral_data.specs.Sent.{pairs_of}
 use Rattle.residual_data.specs.Residual.{nonzero}
 use Rattle.residual_data.specs.Sent.{cut_line, back_lines}
