@@ -18,6 +18,7 @@ use Rattle.frame_reader.specs.declared.FrameError.{FrameError}
 use Rattle.frame_reader.specs.declared.Numbers.{Numbers}
 use Rattle.frame_reader.specs.declared.FrameRead.{FrameRead}
 use Rattle.frame_reader.specs.declared.inner.Known.{Known}
+use Rattle.frame_reader.specs.declared.inner.Stored.{Stored}
 
 -- a refusal by a check of the side information's own
 abbrev pub Low : Reply → Type 0
@@ -41,6 +42,9 @@ pub record Held : Type 0 where
   pub indices : List ℕ
   pub lines : List ℤ
   pub levels : List ℕ
+
+abbrev pub held_in : Known → Stored → Held
+held_in d s = record { known = d; indices = s.indices; lines = s.lines; levels = s.levels }
 
 abbrev pub held_of : List ℤ → List ℕ → Data → Held
 held_of lines levels d =

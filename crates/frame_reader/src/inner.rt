@@ -8,7 +8,7 @@ ghost use Rattle.side_info.specs.Reader.{read_all, reply_of as side_reply};
 ghost use Rattle.residual_data.specs.Private.{AtMost};
 ghost use Rattle.frame_reader.specs.Frame.{start_in, read_data};
 ghost use Rattle.frame_reader.specs.Returned.{reply_of};
-ghost use Rattle.frame_reader.specs.Private.{Low, Standing, read_coded, read_on, held, data_of, shown, shown_of, shown_at, shown_late, shown_residual, shown_finished};
+ghost use Rattle.frame_reader.specs.Private.{Low, Standing, read_coded, read_on, held, held_in, data_of, shown, shown_of, shown_at, shown_late, shown_residual, shown_finished};
 
 use crate::{FrameError, FrameRead, Numbers};
 use buffer_reader::{BufferError, Cursor};
@@ -26,6 +26,14 @@ pub(crate) struct Known {
     pub first_order: usize,
     pub second_order: usize,
     pub range: u32,
+}
+
+// What the coder fills: a frame's indices, lines and levels, in arrays that are long enough for any frame.
+#[derive(Drop)]
+pub(crate) struct Stored {
+    pub indices: [usize; 16],
+    pub lines: [i32; 400],
+    pub levels: [u8; 200],
 }
 
 // The side information's refusals. In a frame none of its fields lacks room, so only its own checks' can come.
@@ -69,12 +77,10 @@ fn read_coded(
     configuration: Configuration,
     ne: usize,
     side: SideInfo,
-    indices: &mut [usize; 16],
-    lines: &mut [i32; 400],
-    levels: &mut [u8; 200],
+    stored: &mut Stored,
 ) -> Result<(Known, Cursor), FrameError>
-    requires { (frame_lines configuration (length buf.now) ≡ accepted ne) × (range_passes state.range ≡ true) × (side.lastnz ≤ 400) × (indices.old ≡ replicate 16 0) × (length lines.old ≡ 400) × (length levels.old ≡ 200) }
-    ensures { data_of result indices.new lines.new levels.new ≡ held lines.old levels.old (read_coded configuration (passed_of tables.now) (8 * length buf.now) ne side state buf.now at) }
+    requires { (frame_lines configuration (length buf.now) ≡ accepted ne) × (range_passes state.range ≡ true) × (side.lastnz ≤ 400) × (stored.old.indices ≡ replicate 16 0) × (length stored.old.lines ≡ 400) × (length stored.old.levels ≡ 200) }
+    ensures { data_of result stored.new.indices stored.new.lines stored.new.levels ≡ held stored.old.lines stored.old.levels (read_coded configuration (passed_of tables.now) (8 * length buf.now) ne side state buf.now at) }
 {
     let bits = 8 * buf.len();
     let (first_order, second_order, s, c) = tns_data::inner::read_tns(
@@ -85,7 +91,7 @@ fn read_coded(
         tns_data::inner::weighting_row(configuration.duration, bits),
         side.tns_first,
         side.tns_second,
-        indices,
+        &mut stored.indices,
     )?;
     let (last, next) = spectral_data::inner::read_pairs(
         s,
@@ -97,8 +103,8 @@ fn read_coded(
         contexts::inner::rate_flag(bits, configuration.fs_ind),
         ne,
         side.lastnz as usize / 2,
-        lines,
-        levels,
+        &mut stored.lines,
+        &mut stored.levels,
     )?;
     let known = Known {
         side,
@@ -136,27 +142,14 @@ fn read_data(
     tables: &PassedSet,
     configuration: Configuration,
     ne: usize,
-    indices: &mut [usize; 16],
-    lines: &mut [i32; 400],
-    levels: &mut [u8; 200],
+    stored: &mut Stored,
 ) -> Result<(Known, Cursor), FrameError>
-    requires { (frame_lines configuration (length buf.now) ≡ accepted ne) × (indices.old ≡ replicate 16 0) × (length lines.old ≡ 400) × (length levels.old ≡ 200) }
-    ensures { data_of result indices.new lines.new levels.new ≡ held lines.old levels.old (read_data configuration (passed_of tables.now) (8 * length buf.now) ne buf.now (record { head = 0; tail = 0 })) }
+    requires { (frame_lines configuration (length buf.now) ≡ accepted ne) × (stored.old.indices ≡ replicate 16 0) × (length stored.old.lines ≡ 400) × (length stored.old.levels ≡ 200) }
+    ensures { data_of result stored.new.indices stored.new.lines stored.new.levels ≡ held stored.old.lines stored.old.levels (read_data configuration (passed_of tables.now) (8 * length buf.now) ne buf.now (record { head = 0; tail = 0 })) }
 {
     let (side, at) = read_side(buf, configuration, ne)?;
     let (state, next) = start(buf, at)?;
-    read_coded(
-        state,
-        buf,
-        next,
-        tables,
-        configuration,
-        ne,
-        side,
-        indices,
-        lines,
-        levels,
-    )
+    read_coded(state, buf, next, tables, configuration, ne, side, stored)
 }
 
 // The lines at the front of the lent buffer, and zeros behind them to its end.
@@ -175,33 +168,36 @@ fn accept(
     known: Known,
     at: Cursor,
     count: usize,
-    indices: &[usize; 16],
     bits: [u8; 400],
-    held: &[i32; 400],
+    stored: &Stored,
     lines: &mut [i32],
 ) -> FrameRead
-    requires { (2 ≤ ne) × (ne ≤ 400) × (ne ≤ length lines.old) × (length held.now ≡ 400) × AtMost 81920 held.now }
-    ensures { shown_of result lines.new ≡ shown_at reading ne known at count indices.now bits held.now lines.old }
+    requires { (2 ≤ ne) × (ne ≤ 400) × (ne ≤ length lines.old) × (length stored.now.lines ≡ 400) × AtMost 81920 stored.now.lines }
+    ensures { shown_of result lines.new ≡ shown_at reading ne known at count stored.now.indices bits stored.now.lines lines.old }
 {
-    lay_lines(held, ne, lines);
+    lay_lines(&stored.lines, ne, lines);
     let side = known.side;
-    let lastnz = side.lastnz as usize;
     let zero = residual_data::inner::zero_flag(
-        reading, lastnz, side.gain, side.noise, held[0], held[1],
+        reading,
+        side.lastnz as usize,
+        side.gain,
+        side.noise,
+        stored.lines[0],
+        stored.lines[1],
     );
     let numbers = Numbers {
         side,
         first_order: known.first_order,
         second_order: known.second_order,
         residual_count: count,
-        seed: residual_data::inner::seed(held, ne),
+        seed: residual_data::inner::seed(&stored.lines, ne),
         zero,
         cursor: at,
         range: known.range,
     };
     FrameRead {
         outcome: Ok(numbers),
-        indices: *indices,
+        indices: stored.indices,
         residual: bits,
     }
 }
@@ -214,19 +210,24 @@ fn with_late(
     known: Known,
     at: Cursor,
     room: usize,
-    indices: &[usize; 16],
-    held: &mut [i32; 400],
-    levels: &[u8; 200],
+    stored: &mut Stored,
     lines: &mut [i32],
 ) -> FrameRead
-    requires { Standing ne buf.now at known.range known.side.lastnz × (at.tail + room ≤ 8 * length buf.now) × (ne ≤ length lines.old) × (length held.old ≡ 400) × (length levels.now ≡ 200) × AtMost 81919 held.old }
-    ensures { shown_of result lines.new ≡ shown_late reading ne buf.now (record { known = known; indices = indices.now; lines = held.old; levels = levels.now }) at room lines.old }
+    requires { Standing ne buf.now at known.range known.side.lastnz × (at.tail + room ≤ 8 * length buf.now) × (ne ≤ length lines.old) × (length stored.old.lines ≡ 400) × (length stored.old.levels ≡ 200) × AtMost 81919 stored.old.lines }
+    ensures { shown_of result lines.new ≡ shown_late reading ne buf.now (held_in known stored.old) at room lines.old }
 {
-    let side = known.side;
-    let pairs = side.lastnz as usize / 2;
-    let tail = residual_data::inner::late_lines(buf, at.tail, room, reading, levels, pairs, held);
+    let pairs = known.side.lastnz as usize / 2;
+    let tail = residual_data::inner::late_lines(
+        buf,
+        at.tail,
+        room,
+        reading,
+        &stored.levels,
+        pairs,
+        &mut stored.lines,
+    );
     let last = Cursor { tail, ..at };
-    accept(reading, ne, known, last, 0, indices, [0; 400], held, lines)
+    accept(reading, ne, known, last, 0, [0; 400], stored, lines)
 }
 
 // Outside it, a bit for each nonzero line.
@@ -237,20 +238,26 @@ fn with_residual(
     known: Known,
     at: Cursor,
     room: usize,
-    indices: &[usize; 16],
-    held: &[i32; 400],
+    stored: &Stored,
     lines: &mut [i32],
 ) -> FrameRead
-    requires { Standing ne buf.now at known.range known.side.lastnz × (at.tail + room ≤ 8 * length buf.now) × (ne ≤ length lines.old) × (length held.now ≡ 400) × AtMost 81919 held.now }
-    ensures { shown_of result lines.new ≡ shown_residual reading ne buf.now (record { known = known; indices = indices.now; lines = held.now; levels = [] }) at room lines.old }
+    requires { Standing ne buf.now at known.range known.side.lastnz × (at.tail + room ≤ 8 * length buf.now) × (ne ≤ length lines.old) × (length stored.now.lines ≡ 400) × AtMost 81919 stored.now.lines }
+    ensures { shown_of result lines.new ≡ shown_residual reading ne buf.now (held_in known stored.now) at room lines.old }
 {
     let mut bits = [0; 400];
-    let count = residual_data::inner::residual_bits(buf, at.tail, room, held, ne, &mut bits);
+    let count = residual_data::inner::residual_bits(
+        buf,
+        at.tail,
+        room,
+        &stored.lines,
+        ne,
+        &mut bits,
+    );
     let last = Cursor {
         tail: at.tail + count,
         ..at
     };
-    accept(reading, ne, known, last, count, indices, bits, held, lines)
+    accept(reading, ne, known, last, count, bits, stored, lines)
 }
 
 // What is left behind the data, or 12.
@@ -260,23 +267,19 @@ fn finish(
     ne: usize,
     known: Known,
     at: Cursor,
-    indices: &[usize; 16],
-    held: &mut [i32; 400],
-    levels: &[u8; 200],
+    stored: &mut Stored,
     lines: &mut [i32],
 ) -> FrameRead
-    requires { Standing ne buf.now at known.range known.side.lastnz × (ne ≤ length lines.old) × (length held.old ≡ 400) × (length levels.now ≡ 200) × AtMost 81919 held.old }
-    ensures { shown_of result lines.new ≡ shown_finished reading ne buf.now (record { known = known; indices = indices.now; lines = held.old; levels = levels.now }) at lines.old }
+    requires { Standing ne buf.now at known.range known.side.lastnz × (ne ≤ length lines.old) × (length stored.old.lines ≡ 400) × (length stored.old.levels ≡ 200) × AtMost 81919 stored.old.lines }
+    ensures { shown_of result lines.new ≡ shown_finished reading ne buf.now (held_in known stored.old) at lines.old }
 {
     let Some(room) = residual_data::inner::available(8 * buf.len(), at, known.range) else {
         return refused(FrameError::NegativeResidualNumBits);
     };
     if known.side.lsb == 1 {
-        return with_late(
-            buf, reading, ne, known, at, room, indices, held, levels, lines,
-        );
+        return with_late(buf, reading, ne, known, at, room, stored, lines);
     }
-    with_residual(buf, reading, ne, known, at, room, indices, held, lines)
+    with_residual(buf, reading, ne, known, at, room, stored, lines)
 }
 
 // A frame whose configuration, length, tables and line buffer have been judged.
@@ -290,27 +293,19 @@ pub fn read(
     requires { (frame_lines configuration (length frame.now) ≡ accepted ne) × (ne ≤ length lines.old) }
     ensures { shown_of result lines.new ≡ shown configuration.reading (read_on configuration (passed_of tables.now) ne frame.now) lines.old }
 {
-    let mut indices = [0; 16];
-    let mut held = [0; 400];
-    let mut levels = [0; 200];
-    match read_data(
-        frame,
-        tables,
-        configuration,
-        ne,
-        &mut indices,
-        &mut held,
-        &mut levels,
-    ) {
+    let mut stored = Stored {
+        indices: [0; 16],
+        lines: [0; 400],
+        levels: [0; 200],
+    };
+    match read_data(frame, tables, configuration, ne, &mut stored) {
         Ok((known, at)) => finish(
             frame,
             configuration.reading,
             ne,
             known,
             at,
-            &indices,
-            &mut held,
-            &levels,
+            &mut stored,
             lines,
         ),
         Err(e) => refused(e),

@@ -15,12 +15,12 @@ use Rattle.frame_reader.proofs.inner.read.Goals.{In-Ok}
 
 -- the data that was read, as the arrays have it
 abbrev held_at : In-Ok → Held × Cursor
-held_at c = (record { known = c.in-Ok.known; indices = c.read_data.new.indices; lines = c.read_data.new.lines; levels = c.read_data.new.levels }, c.in-Ok.at)
+held_at c = (record { known = c.in-Ok.known; indices = c.read_data.new.stored.indices; lines = c.read_data.new.stored.lines; levels = c.read_data.new.stored.levels }, c.in-Ok.at)
 
 held-at : (c : In-Ok) →
     let a = c.args in
     held (replicate 400 (pos 0)) (replicate 200 0) (read_data a.configuration (passed_of a.tables.now) (8 * length a.frame.now) a.ne a.frame.now (record { head = 0; tail = 0 })) ≡ accepted (held_at c)
-held-at c = sym c.read_data.ensures ∙ ap (λ r. data_of r c.read_data.new.indices c.read_data.new.lines c.read_data.new.levels) c.in-Ok.is
+held-at c = sym c.read_data.ensures ∙ ap (λ r. data_of r c.read_data.new.stored.indices c.read_data.new.stored.lines c.read_data.new.stored.levels) c.in-Ok.is
 
 pub finish-requires : goal.finish-requires
 finish-requires c =
@@ -46,4 +46,4 @@ returns-in-Err c =
     let a = c.args in
     let r = c.refused.ensures in
     rw (r.outcome, r.indices, r.residual)
-    (on-refused a.configuration a.ne a.frame.now (passed_of a.tables.now) a.tables.now.passed c.requires.0 a.lines.now (sym c.read_data.ensures ∙ ap (λ r. data_of r c.read_data.new.indices c.read_data.new.lines c.read_data.new.levels) c.in-Err.is))
+    (on-refused a.configuration a.ne a.frame.now (passed_of a.tables.now) a.tables.now.passed c.requires.0 a.lines.now (sym c.read_data.ensures ∙ ap (λ r. data_of r c.read_data.new.stored.indices c.read_data.new.stored.lines c.read_data.new.stored.levels) c.in-Err.is))

@@ -18,13 +18,13 @@ accept-requires c =
       p.0.two,
       p.0.few,
       p.2,
-      late-array-length a.buf.now (escaped_by a.reading (take (a.known.side.lastnz / 2) a.levels.now)) n a.at.tail a.room a.held.now late.new.lines late.ensures.lent (omega (arith, p.0.last, p.0.few, p.3)) ∙ p.3,
-      late-array-most a.buf.now (escaped_by a.reading (take (a.known.side.lastnz / 2) a.levels.now)) n a.at.tail a.room a.held.now late.new.lines late.ensures.lent p.5,
+      late-array-length a.buf.now (escaped_by a.reading (take (a.known.side.lastnz / 2) a.stored.now.levels)) n a.at.tail a.room a.stored.now.lines late.new.lines late.ensures.lent (omega (arith, p.0.last, p.0.few, p.3)) ∙ p.3,
+      late-array-most a.buf.now (escaped_by a.reading (take (a.known.side.lastnz / 2) a.stored.now.levels)) n a.at.tail a.room a.stored.now.lines late.new.lines late.ensures.lent p.5,
     )
 
 pub returns : goal.returns
 returns c =
     let a = c.args in
     let late = c.late_lines-tail in
-    let h : Held = (record { known = a.known; indices = a.indices.now; lines = a.held.now; levels = a.levels.now }) in
+    let h : Held = (record { known = a.known; indices = a.stored.now.indices; lines = a.stored.now.lines; levels = a.stored.now.levels }) in
     c.accept.ensures ∙ late-so a.reading a.ne a.buf.now h a.at a.room a.lines.now late.result late.new.lines late.ensures.tail late.ensures.lent
