@@ -5,7 +5,9 @@ use mathlib.Core.Bool.{Bool, true, false, ◌&&◌}
 use borrow.Author.Tests.{ne_eqb, eq-eqb, eqb-true}
 use lib.Dec.{eqb}
 use lib.ListN.{length}
-use Rattle.common.specs.Tables.{Tables, lookup_passes, part_passes, tables_pass, total, all_at_least, all_at_most, rows_pass}
+use Rattle.common.specs.Tables.{Tables, lookup_passes, part_passes, tables_pass, coded_pass, total, all_at_least, all_at_most, rows_pass}
+use Rattle.common.specs.TableSets.{coded_of}
+use Rattle.common.specs.declared.table_set.CodedTables.{CodedTables}
 use Rattle.common.specs.Flat.{flat_set, tabulate}
 use Rattle.common.proofs.Bools.{and_left, and_right, and-first-fails, and-second-fails, and_both, and-first-holds}
 
@@ -70,6 +72,29 @@ module _ (t : Tables) where
 
   pub coefficients-passed : tables_pass t ≡ true → part_passes 8 17 t.coefficients ≡ true
   coefficients-passed e = and_right (first && second && third && fourth) last e
+
+  -- a set whose coded parts pass
+  pub coded-both : lookup_passes t.lookup ≡ true → part_passes 64 17 t.frequencies ≡ true → part_passes 2 8 t.orders ≡ true → part_passes 8 17 t.coefficients ≡ true → coded_pass t ≡ true
+  coded-both p q r s = and_both (first && second && fourth) last (and_both (first && second) fourth (and_both first second p q) r) s
+
+  pub coded-passed : tables_pass t ≡ true → coded_pass t ≡ true
+  coded-passed e = coded-both (lookup-passed e) (frequencies-passed e) (orders-passed e) (coefficients-passed e)
+
+  pub lookup-coded : coded_pass t ≡ true → lookup_passes t.lookup ≡ true
+  lookup-coded e = and_left first second (and_left (first && second) fourth (and_left (first && second && fourth) last e))
+
+  pub frequencies-coded : coded_pass t ≡ true → part_passes 64 17 t.frequencies ≡ true
+  frequencies-coded e = and_right first second (and_left (first && second) fourth (and_left (first && second && fourth) last e))
+
+  pub orders-coded : coded_pass t ≡ true → part_passes 2 8 t.orders ≡ true
+  orders-coded e = and_right (first && second) fourth (and_left (first && second && fourth) last e)
+
+  pub coefficients-coded : coded_pass t ≡ true → part_passes 8 17 t.coefficients ≡ true
+  coefficients-coded e = and_right (first && second && fourth) last e
+
+-- and those that are lent as such pass
+pub coded-lent : (p : CodedTables) → coded_pass (coded_of p) ≡ true
+coded-lent p = coded-both (coded_of p) p.pairs.looked p.pairs.rows p.tns.order_rows p.tns.index_rows
 
 -- computed over every entry
 pub flat-passes : tables_pass flat_set ≡ true

@@ -13,6 +13,10 @@ abbrev pub tables_of : List ℕ → List ℕ → List ℕ → List ℕ → List 
 tables_of lookup frequencies bits orders coefficients =
     record { lookup = lookup; frequencies = frequencies; bits = bits; orders = orders; coefficients = coefficients }
 
+-- the four that a frame is coded by: the bits are the estimate's
+abbrev pub coded_in : Tables → Tables
+coded_in t = tables_of t.lookup t.frequencies [] t.orders t.coefficients
+
 unfoldable pub total : List ℕ → ℕ
 total [] = 0
 total (x ∷ xs) = x + total xs
@@ -48,6 +52,14 @@ tables_pass t =
     lookup_passes t.lookup &&
     part_passes 64 17 t.frequencies &&
     eqb (length t.bits) (64 * 17) &&
+    part_passes 2 8 t.orders &&
+    part_passes 8 17 t.coefficients
+
+-- what of it a frame is coded by
+abbrev pub coded_pass : Tables → Bool
+coded_pass t =
+    lookup_passes t.lookup &&
+    part_passes 64 17 t.frequencies &&
     part_passes 2 8 t.orders &&
     part_passes 8 17 t.coefficients
 

@@ -1,9 +1,9 @@
 // The table set's check: five lent slices, and a row lent alone.
 ghost use Rattle.std.specs.Prelude.{◌≡◌, ◌*◌, ◌≤◌, ◌↔◌, length, true, false, IsTrue, EachIndex, MatchOption, slice_index};
-ghost use Rattle.common.specs.TableSets.{set_of, passed_of};
-ghost use Rattle.common.specs.Tables.{row_passes, rows_pass, part_passes, lookup_passes, tables_pass};
+ghost use Rattle.common.specs.TableSets.{set_of, passed_of, coded_of};
+ghost use Rattle.common.specs.Tables.{coded_in, row_passes, rows_pass, part_passes, lookup_passes, tables_pass};
 
-use crate::table_set::{PassedSet, TableSet};
+use crate::table_set::{CodedTables, PairTables, PassedSet, TableSet, TnsTables};
 
 // Whether a row of any length passes. The total stops at 1,024, so no length overflows it.
 pub fn row_passes(row: &[u16]) -> bool
@@ -45,6 +45,24 @@ impl<'a> TableSet<'a> {
             orders: self.orders,
             coefficients: self.coefficients,
         })
+    }
+}
+
+impl<'a> PassedSet<'a> {
+    // What a frame is coded by.
+    pub fn coded(self) -> CodedTables<'a>
+        ensures { coded_of result ≡ coded_in (passed_of self.entry) }
+    {
+        CodedTables {
+            pairs: PairTables {
+                lookup: self.lookup,
+                frequencies: self.frequencies,
+            },
+            tns: TnsTables {
+                orders: self.orders,
+                coefficients: self.coefficients,
+            },
+        }
     }
 }
 

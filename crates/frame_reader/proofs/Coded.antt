@@ -7,7 +7,7 @@ use mathlib.Core.List.{List}
 use lib.ListN.{length}
 use Rattle.common.specs.Reply.{Reply, start, Answer, accepted, refused, and_then}
 use Rattle.common.specs.Configuration.{frame_lines}
-use Rattle.common.specs.Tables.{Tables, tables_pass}
+use Rattle.common.specs.Tables.{Tables, coded_pass}
 use Rattle.common.specs.declared.configuration.Configuration.{Configuration}
 use Rattle.common.proofs.Replies.{no-refusal, refusal_in, accepted-same, then-split, within-split}
 use Rattle.buffer_reader.specs.Reads.{take_three}
@@ -32,7 +32,7 @@ start-range f c e =
     sym (ap (λ (w : DecoderState × Cursor). range_passes w.0.range) (accepted-same p.2))
 
 -- behind the TNS data, by the code's number for the weighting row
-module _ (k : Configuration) (ne : ℕ) (f : List ℕ) (t : Tables) (passes : tables_pass t ≡ true) (judged : frame_lines k (length f) ≡ accepted ne) (s : SideInfo) (state : DecoderState) (c : Cursor) (w : ℕ) (ew : w ≡ weighting_row k.duration (8 * length f)) where
+module _ (k : Configuration) (ne : ℕ) (f : List ℕ) (t : Tables) (passes : coded_pass t ≡ true) (judged : frame_lines k (length f) ≡ accepted ne) (s : SideInfo) (state : DecoderState) (c : Cursor) (w : ℕ) (ew : w ≡ weighting_row k.duration (8 * length f)) where
   abbrev tns_by : ℕ → Answer (Coded Tns × Cursor)
   tns_by v = read_tns t.orders t.coefficients v s.tns_first s.tns_second state f c
 

@@ -12,11 +12,11 @@ use lib.ListN.{length}
 use Rattle.common.specs.Reply.{Step, nowhere, side, start, order, coef, symbol, bit, Reply, Answer, accepted, refused, and_then, within}
 use Rattle.common.specs.Configuration.{frame_lines}
 use Rattle.common.specs.Configuration.{ne as lines·ne}
-use Rattle.common.specs.Tables.{Tables, tables_pass}
+use Rattle.common.specs.Tables.{Tables, coded_pass}
 use Rattle.common.specs.declared.configuration.Configuration.{Configuration}
 use Rattle.common.proofs.Bools.{and_left, and_right}
 use Rattle.common.proofs.Configurations.{frame-known, frame-ranges}
-use Rattle.common.proofs.Sets.{lookup-passed, frequencies-passed, orders-passed, coefficients-passed}
+use Rattle.common.proofs.Sets.{lookup-coded, frequencies-coded, orders-coded, coefficients-coded}
 use Rattle.buffer_reader.specs.Reads.{three_at}
 use Rattle.buffer_reader.specs.declared.Cursor.{Cursor}
 use Rattle.buffer_reader.proofs.Answers.{three-taken}
@@ -168,7 +168,7 @@ module _ (k : Configuration) (ne : ℕ) (f : List ℕ) (judged : frame_lines k (
         }
 
 -- all of it, with tables that pass
-module _ (k : Configuration) (ne : ℕ) (f : List ℕ) (t : Tables) (passes : tables_pass t ≡ true) (judged : frame_lines k (length f) ≡ accepted ne) where
+module _ (k : Configuration) (ne : ℕ) (f : List ℕ) (t : Tables) (passes : coded_pass t ≡ true) (judged : frame_lines k (length f) ≡ accepted ne) where
   abbrev fs : ℕ
   fs = k.fs_ind
 
@@ -188,7 +188,7 @@ module _ (k : Configuration) (ne : ℕ) (f : List ℕ) (t : Tables) (passes : ta
   tns-ends : (s : SideInfo) (state : DecoderState) (c : Cursor) → range_passes state.range ≡ true →
       Ends TnsRefusal (Keeps.Behind HeadMoved (TnsWithin s.tns_first s.tns_second) f c) (reading_tns s state c)
   tns-ends s state c ok =
-      (tns-keeps t.orders t.coefficients (weighting_row k.duration bits) (orders-passed t passes) (coefficients-passed t passes) (weighting-low k.duration bits) s.tns_first s.tns_second).ends state f c c (short k ne f judged) ok (head-here f c)
+      (tns-keeps t.orders t.coefficients (weighting_row k.duration bits) (orders-coded t passes) (coefficients-coded t passes) (weighting-low k.duration bits) s.tns_first s.tns_second).ends state f c c (short k ne f judged) ok (head-here f c)
 
   pub tns-range : (s : SideInfo) (state : DecoderState) (c : Cursor) → range_passes state.range ≡ true → {x : Coded Tns × Cursor} → reading_tns s state c ≡ accepted x → range_passes x.0.state.range ≡ true
   tns-range s state c ok e = (subst (Ends TnsRefusal (Keeps.Behind HeadMoved (TnsWithin s.tns_first s.tns_second) f c)) e (tns-ends s state c ok)).range
@@ -200,7 +200,7 @@ module _ (k : Configuration) (ne : ℕ) (f : List ℕ) (t : Tables) (passes : ta
         (ends-refusing TnsRefusal (InFrame k.reading) _ (reading_tns s state c) (tns-in-frame k.reading) (tns-ends s state c ok))
         (λ x e b. ends-then (InFrame k.reading) (Behind k.reading fs ne f) (Keeps.Behind BothMoved (Pairs (Sized standard) (s.lastnz / 2)) f x.1) (reading_pairs s x.0.state x.1) _
         (ends-refusing (Meets standard) (InFrame k.reading) _ (reading_pairs s x.0.state x.1) (pairs-in-frame k.reading)
-        ((pairs-going t.lookup t.frequencies (lookup-passed t passes) (frequencies-passed t passes) standard (eqb s.lsb 1) (rate_flag bits fs) ne 0 (s.lastnz / 2) 0).ends x.0.state f x.1 x.1 (short k ne f judged) b.range (both-here f x.1)))
+        ((pairs-going t.lookup t.frequencies (lookup-coded t passes) (frequencies-coded t passes) standard (eqb s.lsb 1) (rate_flag bits fs) ne 0 (s.lastnz / 2) 0).ends x.0.state f x.1 x.1 (short k ne f judged) b.range (both-here f x.1)))
         (λ y q p.
         let ranged = p.range in
         let n = y.0.state.range in
@@ -209,7 +209,7 @@ module _ (k : Configuration) (ne : ℕ) (f : List ℕ) (t : Tables) (passes : ta
           filters = b.known;
           count = p.known.count;
           sized = p.known.each;
-          even = λ h. (keeps-at (pairs-even t.lookup t.frequencies (lookup-passed t passes) (frequencies-passed t passes) standard (rate_flag bits fs) ne 0 (s.lastnz / 2) 0) x.0.state f x.1 (short k ne f judged) b.range (both-here f x.1) (subst (λ lsb. read_pairs t.lookup t.frequencies standard lsb (rate_flag bits fs) ne 0 (s.lastnz / 2) 0 x.0.state f x.1 ≡ accepted y) h q)).known.each;
+          even = λ h. (keeps-at (pairs-even t.lookup t.frequencies (lookup-coded t passes) (frequencies-coded t passes) standard (rate_flag bits fs) ne 0 (s.lastnz / 2) 0) x.0.state f x.1 (short k ne f judged) b.range (both-here f x.1) (subst (λ lsb. read_pairs t.lookup t.frequencies standard lsb (rate_flag bits fs) ne 0 (s.lastnz / 2) 0 x.0.state f x.1 ≡ accepted y) h q)).known.each;
           least = leb-true 0x10000 n (and_left (leb 0x10000 n) (leb n 0xFFFFFF) ranged);
           most = leb-true n 0xFFFFFF (and_right (leb 0x10000 n) (leb n 0xFFFFFF) ranged);
           place = inside_on p.moved (inside_on (both-of-head b.moved) inside);

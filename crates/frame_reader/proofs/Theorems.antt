@@ -14,6 +14,7 @@ use Rattle.common.specs.Last.{floor_log2}
 use Rattle.common.specs.Reply.{nowhere, Reply, Answer, accepted, refused, given, and_then, tables_fail, wrong_count, residual_negative}
 use Rattle.common.specs.Configuration.{frame_lines}
 use Rattle.common.specs.Tables.{Tables, tables_pass}
+use Rattle.common.proofs.Sets.{coded-passed}
 use Rattle.common.specs.declared.configuration.Configuration.{Configuration}
 use Rattle.common.proofs.Replies.{accepted-same, then-split, given-split}
 use Rattle.common.proofs.Bools.{by-test}
@@ -66,7 +67,7 @@ module _ (k : Configuration) (t : Tables) (count : ℕ) (f : List ℕ) where
           ends-given (InFrame k.reading) Read (not (tables_pass t)) tables_fail _ (in-no-step 3 [] (omega arith) (omega arith))
           (λ g. ends-given (InFrame k.reading) Read (ltb count n) (wrong_count count) _ (in-no-step 4 (count ∷ []) (omega arith) (omega arith))
           (λ h. ends-then (InFrame k.reading) Read (Behind k.reading k.fs_ind n f) (read_data k t (8 * length f) n f origin) _
-          (data-ends k n f t (not-false (tables_pass t) g) e)
+          (data-ends k n f t (coded-passed t (not-false (tables_pass t) g)) e)
           (λ x q b. finished-ends n x.0 x.1)))
 
   -- 1: in a whole frame 9 stands in `bit` alone, 10 and 11 in `order`, `coef` or `symbol` alone, any other in no step; all are 1 to 12,
@@ -127,7 +128,7 @@ module _ (k : Configuration) (t : Tables) (count : ℕ) (f : List ℕ) (fr : Fra
       let c = s.0.1 in
       let u = then-split (available (8 * length f) c d.range) (λ room. accepted (by_mode k.reading n f d c room (eqb d.side.lsb 1))) s.2 in
       let g = given-split (ltb (8 * length f) (used_bits c d.range)) residual_negative (accepted (8 * length f - used_bits c d.range)) u.1 in
-      let b = data-behind k n f t (not-false (tables_pass t) q.0) p.1 s.1 in
+      let b = data-behind k n f t (coded-passed t (not-false (tables_pass t) q.0)) p.1 s.1 in
       record {
         ne = n;
         read = d;

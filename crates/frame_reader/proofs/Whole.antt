@@ -10,7 +10,9 @@ use lib.ListN.{length, get_or, replicate, length-append, length-replicate}
 use lib.IntN.{ℤ, pos, nat_abs}
 use Rattle.common.specs.Reply.{Reply, Answer, accepted, refused, and_then, answer_by, given, tables_fail, wrong_count}
 use Rattle.common.specs.Configuration.{frame_lines}
-use Rattle.common.specs.Tables.{Tables, tables_pass}
+use Rattle.common.specs.Tables.{Tables, tables_pass, coded_pass, coded_in}
+use Rattle.common.specs.TableSets.{coded_of}
+use Rattle.common.specs.declared.table_set.CodedTables.{CodedTables}
 use Rattle.common.specs.declared.configuration.Configuration.{Configuration}
 use Rattle.common.proofs.Replies.{accepted-same, then-split}
 use Rattle.buffer_reader.specs.declared.Cursor.{Cursor}
@@ -45,7 +47,7 @@ lines-most (x ∷ xs) (more s rest) (suc (suc k)) = lines-most xs rest k
 
 -- ---- behind the checks
 
-module _ (k : Configuration) (ne : ℕ) (f : List ℕ) (t : Tables) (passes : tables_pass t ≡ true) (judged : frame_lines k (length f) ≡ accepted ne) where
+module _ (k : Configuration) (ne : ℕ) (f : List ℕ) (t : Tables) (passes : coded_pass t ≡ true) (judged : frame_lines k (length f) ≡ accepted ne) where
   abbrev origin : Cursor
   origin = record { head = 0; tail = 0 }
 
@@ -150,6 +152,9 @@ module _ (k : Configuration) (t : Tables) (count : ℕ) (f : List ℕ) where
 
       pub count-refused : ltb count ne ≡ true → read_frame k t count f ≡ refused (wrong_count count)
       count-refused h = behind-tables ∙ ap (λ b. given b (wrong_count count) (read_on k t ne f)) h
+
+      pub read-coded : (p : CodedTables) → coded_of p ≡ coded_in t → ltb count ne ≡ false → read_on k (coded_of p) ne f ≡ read_frame k t count f
+      read-coded p same h = ap (λ (s : Tables). read_on k s ne f) same ∙ sym (behind-tables ∙ ap (λ b. given b (wrong_count count) (read_on k t ne f)) h)
 
       pub read-on : ltb count ne ≡ false → read_frame k t count f ≡ read_on k t ne f
       read-on h = behind-tables ∙ ap (λ b. given b (wrong_count count) (read_on k t ne f)) h

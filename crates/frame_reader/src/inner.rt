@@ -2,7 +2,7 @@
 ghost use Rattle.std.specs.Prelude.{◌≡◌, true, [], ◌++◌, ℕ, ◌+◌, ◌-◌, ◌*◌, ◌≤◌, length, take, drop, replicate, ℤ, pos};
 ghost use Rattle.common.specs.Reply.{accepted, answer_by};
 ghost use Rattle.common.specs.Configuration.{frame_lines};
-ghost use Rattle.common.specs.TableSets.{passed_of};
+ghost use Rattle.common.specs.TableSets.{coded_of};
 ghost use Rattle.range_decoder.specs.Decoder.{range_passes};
 ghost use Rattle.side_info.specs.Reader.{read_all, reply_of as side_reply};
 ghost use Rattle.residual_data.specs.Private.{AtMost};
@@ -14,7 +14,7 @@ use crate::{FrameError, FrameRead, Numbers};
 use buffer_reader::{BufferError, Cursor};
 use coding::Met;
 use common::configuration::Configuration;
-use common::table_set::PassedSet;
+use common::table_set::CodedTables;
 use range_decoder::DecoderState;
 use side_info::SideInfo;
 use side_info::fields::SideInfoError;
@@ -73,21 +73,21 @@ fn read_coded(
     state: DecoderState,
     buf: &[u8],
     at: Cursor,
-    tables: &PassedSet,
+    tables: &CodedTables,
     configuration: Configuration,
     ne: usize,
     side: SideInfo,
     stored: &mut Stored,
 ) -> Result<(Known, Cursor), FrameError>
     requires { (frame_lines configuration (length buf.now) ≡ accepted ne) × (range_passes state.range ≡ true) × (side.lastnz ≤ 400) × (stored.old.indices ≡ replicate 16 0) × (length stored.old.lines ≡ 400) × (length stored.old.levels ≡ 200) }
-    ensures { data_of result stored.new.indices stored.new.lines stored.new.levels ≡ held stored.old.lines stored.old.levels (read_coded configuration (passed_of tables.now) (8 * length buf.now) ne side state buf.now at) }
+    ensures { data_of result stored.new.indices stored.new.lines stored.new.levels ≡ held stored.old.lines stored.old.levels (read_coded configuration (coded_of tables.now) (8 * length buf.now) ne side state buf.now at) }
 {
     let bits = 8 * buf.len();
     let (first_order, second_order, s, c) = tns_data::inner::read_tns(
         state,
         buf,
         at,
-        tables,
+        &tables.tns,
         tns_data::inner::weighting_row(configuration.duration, bits),
         side.tns_first,
         side.tns_second,
@@ -97,7 +97,7 @@ fn read_coded(
         s,
         buf,
         c,
-        tables,
+        &tables.pairs,
         configuration.reading == 1,
         side.lsb == 1,
         contexts::inner::rate_flag(bits, configuration.fs_ind),
@@ -139,13 +139,13 @@ fn start(buf: &[u8], at: Cursor) -> Result<(DecoderState, Cursor), FrameError>
 // Side information, the coder's start, and what the coder reads.
 fn read_data(
     buf: &[u8],
-    tables: &PassedSet,
+    tables: &CodedTables,
     configuration: Configuration,
     ne: usize,
     stored: &mut Stored,
 ) -> Result<(Known, Cursor), FrameError>
     requires { (frame_lines configuration (length buf.now) ≡ accepted ne) × (stored.old.indices ≡ replicate 16 0) × (length stored.old.lines ≡ 400) × (length stored.old.levels ≡ 200) }
-    ensures { data_of result stored.new.indices stored.new.lines stored.new.levels ≡ held stored.old.lines stored.old.levels (read_data configuration (passed_of tables.now) (8 * length buf.now) ne buf.now (record { head = 0; tail = 0 })) }
+    ensures { data_of result stored.new.indices stored.new.lines stored.new.levels ≡ held stored.old.lines stored.old.levels (read_data configuration (coded_of tables.now) (8 * length buf.now) ne buf.now (record { head = 0; tail = 0 })) }
 {
     let (side, at) = read_side(buf, configuration, ne)?;
     let (state, next) = start(buf, at)?;
@@ -286,12 +286,12 @@ fn finish(
 pub fn read(
     configuration: Configuration,
     ne: usize,
-    tables: &PassedSet,
+    tables: &CodedTables,
     frame: &[u8],
     lines: &mut [i32],
 ) -> FrameRead
     requires { (frame_lines configuration (length frame.now) ≡ accepted ne) × (ne ≤ length lines.old) }
-    ensures { shown_of result lines.new ≡ shown configuration.reading (read_on configuration (passed_of tables.now) ne frame.now) lines.old }
+    ensures { shown_of result lines.new ≡ shown configuration.reading (read_on configuration (coded_of tables.now) ne frame.now) lines.old }
 {
     let mut stored = Stored {
         indices: [0; 16],

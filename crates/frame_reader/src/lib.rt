@@ -108,5 +108,5 @@ pub fn read(
     if lines.len() < ne {
         return inner::refused(FrameError::WrongCount(lines.len()));
     }
-    inner::read(configuration, ne, &passed, frame, lines)
+    inner::read(configuration, ne, &passed.coded(), frame, lines)
 }

@@ -7,7 +7,7 @@ use mathlib.Core.List.{List, ◌++◌}
 use native.Mathlib.Omega.{arith}
 use native.Mathlib.Nat.{zero-add}
 use lib.ListN.{length, take, replicate, length-replicate}
-use Rattle.common.specs.Tables.{Tables, tables_pass}
+use Rattle.common.specs.Tables.{Tables, coded_pass}
 use Rattle.common.specs.declared.configuration.Configuration.{Configuration}
 use Rattle.side_info.specs.Layout.{side_fields, side_length, put_fields}
 use Rattle.side_info.specs.declared.SideInfo.{SideInfo}
@@ -60,7 +60,7 @@ early-puts writing k ne w place f g j p at size room =
     record { few = omega (arith, at, few, sum); short = omega (arith, j.short, size); room = λ e. omega (arith, at, room e, sum, size) }
 
 -- the calls that fill a frame
-module _ (k : Configuration) (t : Tables) (passes : tables_pass t ≡ true) (ne : ℕ) (w : Content) (f : List ℕ) (j : Judged k ne (length f)) (p : Passed k.fs_ind ne w)
+module _ (k : Configuration) (t : Tables) (passes : coded_pass t ≡ true) (ne : ℕ) (w : Content) (f : List ℕ) (j : Judged k ne (length f)) (p : Passed k.fs_ind ne w)
     (room : length (early_bits k.fs_ind ne w) + reserved (symbols_of k t (8 * length f) ne w) ≤ 8 * length f) where
   abbrev pub symbols : List Sent
   symbols = symbols_of k t (8 * length f) ne w

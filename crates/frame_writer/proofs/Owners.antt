@@ -15,6 +15,7 @@ use lib.Seq.{length-sets}
 use Rattle.common.specs.Configuration.{ne, length_passes, configuration_passes, frame_lines}
 use Rattle.common.specs.Reply.{accepted, given, tables_fail, wrong_count, field_outside, line_outside, residual_too_long, no_room}
 use Rattle.common.specs.Tables.{Tables, tables_pass}
+use Rattle.common.proofs.Sets.{coded-passed}
 use Rattle.common.specs.declared.configuration.Configuration.{Configuration}
 use Rattle.common.proofs.Bools.{by-test, and_right}
 use Rattle.common.proofs.Configurations.{frame-known}
@@ -230,7 +231,7 @@ lines-zero w h k l m =
 
 pub symbols-given : (k : Configuration) (t : Tables) (bits n : ℕ) (w : Content) → tables_pass t ≡ true → fields_pass k.fs_ind n w ≡ true → Modest w.lines → AllPass (symbols_of k t bits n w)
 symbols-given k t bits n w tables fields modest =
-    content-passes k t bits n w tables (and_right (side_passes k.fs_ind n w.side) (tns_passes w.side.tns_first w.side.tns_second w.first w.second w.indices) fields) modest
+    content-passes k t bits n w (coded-passed t tables) (and_right (side_passes k.fs_ind n w.side) (tns_passes w.side.tns_first w.side.tns_second w.first w.second w.indices) fields) modest
 
 -- ---- the theorem
 

@@ -6,7 +6,7 @@ use mathlib.Core.Bool.{Bool, true, false}
 use mathlib.Core.List.{List, [], ◌++◌, append-nil}
 use native.Mathlib.Omega.{arith}
 use lib.ListN.{length, length-append}
-use Rattle.common.specs.Tables.{Tables, tables_pass}
+use Rattle.common.specs.Tables.{Tables, coded_pass}
 use Rattle.common.specs.declared.configuration.Configuration.{Configuration}
 use Rattle.contexts.specs.Contexts.{rate_flag}
 use Rattle.contexts.proofs.Lookups.{rate-most}
@@ -103,7 +103,7 @@ module _ (k : Configuration) (t : Tables) (ne : ℕ) (w : Content) (f : List ℕ
         ap₂ (λ (x : EncoderState) (xs : List Sent). laid_all writing x f xs) start both,
   )
 
-module _ (k : Configuration) (t : Tables) (passes : tables_pass t ≡ true) (ne n : ℕ) (w : Content) (j : Judged k ne n) (p : Passed k.fs_ind ne w) where
+module _ (k : Configuration) (t : Tables) (passes : coded_pass t ≡ true) (ne n : ℕ) (w : Content) (j : Judged k ne n) (p : Passed k.fs_ind ne w) where
   pub symbols-pass : AllPass (symbols_of k t (8 * n) ne w)
   symbols-pass = content-passes k t (8 * n) ne w passes p.filters p.modest
 
@@ -135,7 +135,7 @@ module _ (k : Configuration) (t : Tables) (passes : tables_pass t ≡ true) (ne 
   sound-sent = sound-behind start_encoder (symbols_of k t (8 * n) ne w) sound-start symbols-pass
 
 -- the same where the frame is one that was lent
-module _ (k : Configuration) (t : Tables) (passes : tables_pass t ≡ true) (ne : ℕ) (w : Content) (f g : List ℕ) (j : Judged k ne (length f)) (p : Passed k.fs_ind ne w) (same : g ≡ f) where
+module _ (k : Configuration) (t : Tables) (passes : coded_pass t ≡ true) (ne : ℕ) (w : Content) (f g : List ℕ) (j : Judged k ne (length f)) (p : Passed k.fs_ind ne w) (same : g ≡ f) where
   pub count-asked-at : Judged k ne (length g) × Passed k.fs_ind ne w × Ready false start_encoder (length g) (symbols_of k t (8 * length g) ne w)
   count-asked-at = rw same (j, p, may-count k t passes ne (length f) w j p)
 

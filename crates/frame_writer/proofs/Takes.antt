@@ -18,7 +18,7 @@ use Rattle.common.specs.declared.configuration.Configuration.{Configuration}
 use Rattle.common.proofs.Bools.{by-test, and_right, and_both, or-first-fails, and-first-fails, and-second-fails}
 use Rattle.common.proofs.Configurations.{frame-known, frame-ranges}
 use Rattle.common.proofs.Replies.{accepted-same, given-split, then-split, within-split}
-use Rattle.common.proofs.Sets.{lookup-passed, frequencies-passed, orders-passed, coefficients-passed}
+use Rattle.common.proofs.Sets.{lookup-passed, frequencies-passed, orders-passed, coefficients-passed, coded-passed}
 use Rattle.common.proofs.Lasts.{log-range}
 use Rattle.contexts.specs.Contexts.{rate_flag}
 use Rattle.contexts.specs.Lines.{line_at, magnitude_at, escapes_at, early_line}
@@ -379,7 +379,7 @@ module _ (k : Configuration) (t : Tables) (count : ℕ) (f : List ℕ) (x : Fram
       let s = then-split (read_data k t (8 * length f) n f origin) (λ d. finished k.reading n f d.0 d.1) checked.3 in
       let u = then-split (available (8 * length f) s.0.1 s.0.0.range) (λ room. accepted (by_mode k.reading n f s.0 room (eqb s.0.0.side.lsb 1))) s.2 in
       let g = given-split (ltb (8 * length f) (used_bits s.0.1 s.0.0.range)) residual_negative (accepted (8 * length f - used_bits s.0.1 s.0.0.range)) u.1 in
-      let known = data-behind k n f t tables lines s.1 in
+      let known = data-behind k n f t (coded-passed t tables) lines s.1 in
       subst (Parts k t f n) (ap (λ (room : ℕ). by_mode k.reading n f s.0 room (eqb s.0.0.side.lsb 1)) (accepted-same g.1) ∙ accepted-same u.2)
       (data-made k t f n lines tables s.0 s.1 known (ltb-false (8 * length f) (used_bits s.0.1 s.0.0.range) g.0) (eqb s.0.0.side.lsb 1) refl)
 

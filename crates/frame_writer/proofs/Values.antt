@@ -4,10 +4,10 @@ use Prim.Native.Nat.{ℕ, ◌-◌, ◌/◌}
 use mathlib.Core.Path.{◌≡◌, refl}
 use mathlib.Core.Bool.{true}
 use lib.ListN.{length, take}
-use Rattle.common.specs.Tables.{Tables, tables_pass}
+use Rattle.common.specs.Tables.{Tables, coded_pass}
 use Rattle.common.specs.declared.configuration.Configuration.{Configuration}
 use Rattle.common.proofs.Bools.{by-test}
-use Rattle.common.proofs.Sets.{lookup-passed, frequencies-passed, orders-passed, coefficients-passed}
+use Rattle.common.proofs.Sets.{lookup-coded, frequencies-coded, orders-coded, coefficients-coded}
 use Rattle.contexts.specs.Contexts.{rate_flag}
 use Rattle.side_info.specs.Layout.{side_fields}
 use Rattle.range_encoder.specs.Runs.{AllPass}
@@ -28,12 +28,12 @@ use Rattle.frame_writer.proofs.Fields.{fields-bits-low}
 
 -- ---- the symbols for the head
 
-pub content-passes : (k : Configuration) (t : Tables) (bits n : ℕ) (w : Content) → tables_pass t ≡ true → tns_passes w.side.tns_first w.side.tns_second w.first w.second w.indices ≡ true → Modest w.lines → AllPass (symbols_of k t bits n w)
+pub content-passes : (k : Configuration) (t : Tables) (bits n : ℕ) (w : Content) → coded_pass t ≡ true → tns_passes w.side.tns_first w.side.tns_second w.first w.second w.indices ≡ true → Modest w.lines → AllPass (symbols_of k t bits n w)
 content-passes k t bits n w passes filters modest =
     let weighting = weighting_row k.duration bits in
     pass-append (sent_tns t.orders t.coefficients weighting (tns_of w.first w.second w.indices)) _
-    (tns-all-pass t.orders t.coefficients weighting (orders-passed t passes) (coefficients-passed t passes) (weighting-most weighting k.duration bits refl) w.side.tns_first w.side.tns_second w.first w.second w.indices filters)
-    (pairs-all-pass t.lookup t.frequencies (lookup-passed t passes) (frequencies-passed t passes) (rate_flag bits k.fs_ind) n w.lines modest 0 (w.side.lastnz / 2) 0)
+    (tns-all-pass t.orders t.coefficients weighting (orders-coded t passes) (coefficients-coded t passes) (weighting-most weighting k.duration bits refl) w.side.tns_first w.side.tns_second w.first w.second w.indices filters)
+    (pairs-all-pass t.lookup t.frequencies (lookup-coded t passes) (frequencies-coded t passes) (rate_flag bits k.fs_ind) n w.lines modest 0 (w.side.lastnz / 2) 0)
 
 -- ---- the bits for the tail
 

@@ -1,6 +1,6 @@
 // The writing behind the checks 1 to 4, for runs over many frames: 13 to 16 are judged before a bit of the lent frame is touched.
 ghost use Rattle.std.specs.Prelude.{◌≡◌, true, ◌&&◌, ◌||◌, ◌+◌, ◌*◌, ◌≤◌, ltb, leb, length, take};
-ghost use Rattle.common.specs.TableSets.{passed_of};
+ghost use Rattle.common.specs.TableSets.{coded_of};
 ghost use Rattle.contexts.specs.First.{first_from};
 ghost use Rattle.range_encoder.specs.Encoder.{start_encoder};
 ghost use Rattle.range_encoder.specs.Private.{Fits};
@@ -13,7 +13,7 @@ ghost use Rattle.frame_writer.specs.Private.{Judged, Passed, held_by, fails_at, 
 
 use crate::{Content, WriteError};
 use common::configuration::Configuration;
-use common::table_set::PassedSet;
+use common::table_set::CodedTables;
 use range_encoder::EncoderState;
 
 // 13: the side fields and the TNS fields.
@@ -57,12 +57,12 @@ fn send_symbols(
     writing: bool,
     configuration: Configuration,
     ne: usize,
-    tables: &PassedSet,
+    tables: &CodedTables,
     content: &Content,
 ) -> EncoderState
-    requires { Judged configuration ne (length buf.old) × Passed configuration.fs_ind ne (content_of content.now) × Ready writing start_encoder (length buf.old) (symbols_of configuration (passed_of tables.now) (8 * length buf.old) ne (content_of content.now)) }
-    ensures state { result ≡ sent_all writing start_encoder (symbols_of configuration (passed_of tables.now) (8 * length buf.old) ne (content_of content.now)) }
-    ensures lent { buf.new ≡ laid_all writing start_encoder buf.old (symbols_of configuration (passed_of tables.now) (8 * length buf.old) ne (content_of content.now)) }
+    requires { Judged configuration ne (length buf.old) × Passed configuration.fs_ind ne (content_of content.now) × Ready writing start_encoder (length buf.old) (symbols_of configuration (coded_of tables.now) (8 * length buf.old) ne (content_of content.now)) }
+    ensures state { result ≡ sent_all writing start_encoder (symbols_of configuration (coded_of tables.now) (8 * length buf.old) ne (content_of content.now)) }
+    ensures lent { buf.new ≡ laid_all writing start_encoder buf.old (symbols_of configuration (coded_of tables.now) (8 * length buf.old) ne (content_of content.now)) }
 {
     let bits = 8 * buf.len();
     let weighting = tns_data::inner::weighting_row(configuration.duration, bits);
@@ -71,7 +71,7 @@ fn send_symbols(
         buf,
         range_encoder::inner::ac_enc_init(),
         writing,
-        tables,
+        &tables.tns,
         weighting,
         content.first_order,
         content.second_order,
@@ -81,7 +81,7 @@ fn send_symbols(
         buf,
         behind,
         writing,
-        tables,
+        &tables.pairs,
         rate,
         ne,
         content.lines,
@@ -140,12 +140,12 @@ fn put_late(buf: &mut [u8], place: usize, room: usize, content: &Content)
 fn fill(
     configuration: Configuration,
     ne: usize,
-    tables: &PassedSet,
+    tables: &CodedTables,
     content: &Content,
     frame: &mut [u8],
 )
-    requires { Judged configuration ne (length frame.old) × Passed configuration.fs_ind ne (content_of content.now) × (length (early_bits configuration.fs_ind ne (content_of content.now)) + reserved (symbols_of configuration (passed_of tables.now) (8 * length frame.old) ne (content_of content.now)) ≤ 8 * length frame.old) }
-    ensures { frame.new ≡ laid configuration.reading (length frame.old) (symbols_of configuration (passed_of tables.now) (8 * length frame.old) ne (content_of content.now)) (tail_bits configuration (passed_of tables.now) (8 * length frame.old) ne (content_of content.now)) }
+    requires { Judged configuration ne (length frame.old) × Passed configuration.fs_ind ne (content_of content.now) × (length (early_bits configuration.fs_ind ne (content_of content.now)) + reserved (symbols_of configuration (coded_of tables.now) (8 * length frame.old) ne (content_of content.now)) ≤ 8 * length frame.old) }
+    ensures { frame.new ≡ laid configuration.reading (length frame.old) (symbols_of configuration (coded_of tables.now) (8 * length frame.old) ne (content_of content.now)) (tail_bits configuration (coded_of tables.now) (8 * length frame.old) ne (content_of content.now)) }
 {
     let bits = 8 * frame.len();
     frame.fill(0);
@@ -160,13 +160,13 @@ fn fill(
 fn write_fitting(
     configuration: Configuration,
     ne: usize,
-    tables: &PassedSet,
+    tables: &CodedTables,
     content: &Content,
     frame: &mut [u8],
 ) -> Result<(), WriteError>
     requires { Judged configuration ne (length frame.old) × Passed configuration.fs_ind ne (content_of content.now) }
-    ensures answer { written_of result ≡ told (write_fitting configuration (passed_of tables.now) ne (content_of content.now) (length frame.old)) }
-    ensures lent { frame.new ≡ frame_behind (write_fitting configuration (passed_of tables.now) ne (content_of content.now) (length frame.old)) frame.old }
+    ensures answer { written_of result ≡ told (write_fitting configuration (coded_of tables.now) ne (content_of content.now) (length frame.old)) }
+    ensures lent { frame.new ≡ frame_behind (write_fitting configuration (coded_of tables.now) ne (content_of content.now) (length frame.old)) frame.old }
 {
     let early = put_early(frame, false, configuration, ne, content);
     let st = send_symbols(frame, false, configuration, ne, tables, content);
@@ -181,13 +181,13 @@ fn write_fitting(
 pub fn write(
     configuration: Configuration,
     ne: usize,
-    tables: &PassedSet,
+    tables: &CodedTables,
     content: &Content,
     frame: &mut [u8],
 ) -> Result<(), WriteError>
     requires { Judged configuration ne (length frame.old) × (length content.now.lines.now ≡ ne) × (length content.now.indices ≡ 16) }
-    ensures answer { written_of result ≡ told (write_on configuration (passed_of tables.now) ne (content_of content.now) (length frame.old)) }
-    ensures lent { frame.new ≡ frame_behind (write_on configuration (passed_of tables.now) ne (content_of content.now) (length frame.old)) frame.old }
+    ensures answer { written_of result ≡ told (write_on configuration (coded_of tables.now) ne (content_of content.now) (length frame.old)) }
+    ensures lent { frame.new ≡ frame_behind (write_on configuration (coded_of tables.now) ne (content_of content.now) (length frame.old)) frame.old }
 {
     if !fields_pass(configuration.fs_ind, ne, content) {
         return Err(WriteError::FieldOutside);

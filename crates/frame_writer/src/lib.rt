@@ -63,5 +63,5 @@ pub fn write(
     if content.lines.len() != ne {
         return Err(WriteError::WrongCount(content.lines.len()));
     }
-    inner::write(configuration, ne, &passed, content, frame)
+    inner::write(configuration, ne, &passed.coded(), content, frame)
 }

@@ -23,7 +23,7 @@ fn read_one(
     ensures low { result ≤ 1 }
     ensures lent { lines.new ≡ lines_behind (read_frame configuration (passed_of tables.now) (length lines.old) frame.now) lines.old }
 {
-    let answer = frame_reader::inner::read(configuration, ne, tables, frame, lines);
+    let answer = frame_reader::inner::read(configuration, ne, &tables.coded(), frame, lines);
     usize::from(answer.outcome.is_ok())
 }
 

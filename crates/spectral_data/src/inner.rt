@@ -10,7 +10,7 @@ ghost use Rattle.spectral_data.specs.declared.inner.PairsError.TheVariants.{Step
 
 use buffer_reader::Cursor;
 use coding::Met;
-use common::table_set::PassedSet;
+use common::table_set::PairTables;
 use range_decoder::DecoderState;
 use range_encoder::EncoderState;
 
@@ -109,7 +109,7 @@ fn read_symbol(
     state: DecoderState,
     buf: &[u8],
     at: Cursor,
-    tables: &PassedSet,
+    tables: &PairTables,
     p: usize,
     start: usize,
     level: usize,
@@ -128,7 +128,7 @@ fn read_turn(
     state: DecoderState,
     buf: &[u8],
     at: Cursor,
-    tables: &PassedSet,
+    tables: &PairTables,
     standard: bool,
     lsb: bool,
     p: usize,
@@ -160,7 +160,7 @@ fn read_levels(
     state: DecoderState,
     buf: &[u8],
     at: Cursor,
-    tables: &PassedSet,
+    tables: &PairTables,
     standard: bool,
     lsb: bool,
     p: usize,
@@ -271,7 +271,7 @@ fn read_pair(
     state: DecoderState,
     buf: &[u8],
     at: Cursor,
-    tables: &PassedSet,
+    tables: &PairTables,
     standard: bool,
     lsb: bool,
     p: usize,
@@ -301,7 +301,7 @@ pub fn read_pairs(
     state: DecoderState,
     buf: &[u8],
     at: Cursor,
-    tables: &PassedSet,
+    tables: &PairTables,
     standard: bool,
     lsb: bool,
     rate: usize,
@@ -340,7 +340,7 @@ pub fn send_pairs(
     buf: &mut [u8],
     st: EncoderState,
     writing: bool,
-    tables: &PassedSet,
+    tables: &PairTables,
     rate: usize,
     ne: usize,
     lines: &[i16],

@@ -3,7 +3,7 @@ ghost use Rattle.std.specs.Prelude.{◌≡◌, ◌*◌, ◌≤◌, ◌<◌, leng
 ghost use Rattle.sending.specs.Private.{Ready, sent_all, laid_all};
 ghost use Rattle.spectral_data.specs.Sent.{sent_escapes, sent_pair, sent_pairs};
 
-use common::table_set::PassedSet;
+use common::table_set::PairTables;
 use range_encoder::EncoderState;
 
 // The n escapes of a pair, from level 0 on.
@@ -11,7 +11,7 @@ fn escapes(
     buf: &mut [u8],
     st: EncoderState,
     writing: bool,
-    tables: &PassedSet,
+    tables: &PairTables,
     start: usize,
     n: usize,
 ) -> EncoderState
@@ -32,7 +32,7 @@ fn pair(
     buf: &mut [u8],
     st: EncoderState,
     writing: bool,
-    tables: &PassedSet,
+    tables: &PairTables,
     start: usize,
     a: usize,
     b: usize,
@@ -53,7 +53,7 @@ pub(crate) fn pairs(
     buf: &mut [u8],
     st: EncoderState,
     writing: bool,
-    tables: &PassedSet,
+    tables: &PairTables,
     rate: usize,
     ne: usize,
     lines: &[i16],

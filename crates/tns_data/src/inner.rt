@@ -8,7 +8,7 @@ ghost use Rattle.tns_data.specs.Private.{tns_of, told, filter_of, laid, indices_
 
 use buffer_reader::Cursor;
 use coding::Met;
-use common::table_set::PassedSet;
+use common::table_set::TnsTables;
 use range_decoder::DecoderState;
 use range_encoder::EncoderState;
 
@@ -29,7 +29,7 @@ fn read_indices(
     state: DecoderState,
     buf: &[u8],
     at: Cursor,
-    tables: &PassedSet,
+    tables: &TnsTables,
     filter: usize,
     order: usize,
     indices: &mut [usize; 16],
@@ -54,7 +54,7 @@ fn read_filter(
     state: DecoderState,
     buf: &[u8],
     at: Cursor,
-    tables: &PassedSet,
+    tables: &TnsTables,
     weighting: usize,
     filter: usize,
     flag: u32,
@@ -76,7 +76,7 @@ pub fn read_tns(
     state: DecoderState,
     buf: &[u8],
     at: Cursor,
-    tables: &PassedSet,
+    tables: &TnsTables,
     weighting: usize,
     first_flag: u32,
     second_flag: u32,
@@ -118,7 +118,7 @@ pub fn send_tns(
     buf: &mut [u8],
     st: EncoderState,
     writing: bool,
-    tables: &PassedSet,
+    tables: &TnsTables,
     weighting: usize,
     first_order: usize,
     second_order: usize,

@@ -4,7 +4,7 @@ ghost use Rattle.sending.specs.Private.{Ready, sent_all, laid_all};
 ghost use Rattle.tns_data.specs.Sent.{places_pass, filter_passes, tns_passes, sent_indices, sent_filter, sent_tns, tns_of};
 ghost use Rattle.tns_data.specs.Private.{filter_at};
 
-use common::table_set::PassedSet;
+use common::table_set::TnsTables;
 use range_encoder::EncoderState;
 
 // An index at place k of a filter: 0 to 16 below its order, 0 from there on.
@@ -55,7 +55,7 @@ fn send_indices(
     buf: &mut [u8],
     st: EncoderState,
     writing: bool,
-    tables: &PassedSet,
+    tables: &TnsTables,
     indices: [usize; 16],
     from: usize,
     order: usize,
@@ -84,7 +84,7 @@ fn send_filter(
     buf: &mut [u8],
     st: EncoderState,
     writing: bool,
-    tables: &PassedSet,
+    tables: &TnsTables,
     weighting: usize,
     indices: [usize; 16],
     from: usize,
@@ -106,7 +106,7 @@ pub(crate) fn send_tns(
     buf: &mut [u8],
     st: EncoderState,
     writing: bool,
-    tables: &PassedSet,
+    tables: &TnsTables,
     weighting: usize,
     first_order: usize,
     second_order: usize,

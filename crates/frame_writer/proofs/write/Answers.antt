@@ -4,8 +4,8 @@ use mathlib.Core.Path.{◌≡◌, refl, sym, ap, subst, ◌∙◌}
 use mathlib.Core.Bool.{true}
 use lib.ListN.{length}
 use Rattle.common.specs.Reply.{wrong_count}
-use Rattle.common.specs.TableSets.{set_of, passed_of}
-use Rattle.common.specs.Tables.{Tables, tables_pass}
+use Rattle.common.specs.TableSets.{set_of, passed_of, coded_of}
+use Rattle.common.specs.Tables.{Tables, tables_pass, coded_in}
 use Rattle.frame_writer.specs.Frame.{write_frame}
 use Rattle.frame_writer.specs.Returned.{content_of, written_of}
 use Rattle.frame_writer.specs.Private.{write_on}
@@ -32,5 +32,5 @@ returns c =
     let a = c.args in
     let w = content_of a.content.now in
     let n = length a.frame.now in
-    let on = frame_on a.configuration (set_of a.tables.now) w n c.in_ok-ne.ne (sym c.in_ok-ne.ensures) (passes (goal.at.returns c).In_ok-passed) c.if-content-ne.false ∙ ap (λ (t : Tables). write_on a.configuration t c.in_ok-ne.ne w n) (sym (same (goal.at.returns c).In_ok-passed)) in
-    let p = answering (written_of c.write.result) c.write.new.frame a.frame.now (write_frame a.configuration (set_of a.tables.now) w n) (write_on a.configuration (passed_of c.in_ok-passed.passed) c.in_ok-ne.ne w n) on (c.write.ensures.answer, c.write.ensures.lent) in record { answer = p.0; lent = p.1 }
+    let on = frame_on a.configuration (set_of a.tables.now) w n c.in_ok-ne.ne (sym c.in_ok-ne.ensures) (passes (goal.at.returns c).In_ok-passed) c.if-content-ne.false ∙ ap (λ (t : Tables). write_on a.configuration t c.in_ok-ne.ne w n) (sym (c.coded.ensures ∙ ap coded_in (same (goal.at.returns c).In_ok-passed))) in
+    let p = answering (written_of c.write.result) c.write.new.frame a.frame.now (write_frame a.configuration (set_of a.tables.now) w n) (write_on a.configuration (coded_of c.coded.result) c.in_ok-ne.ne w n) on (c.write.ensures.answer, c.write.ensures.lent) in record { answer = p.0; lent = p.1 }

@@ -4,7 +4,8 @@ use Prim.Native.Nat.{◌*◌}
 use mathlib.Core.Path.{sym, ap, ◌∙◌}
 use native.Mathlib.Omega.{arith}
 use lib.ListN.{length}
-use Rattle.common.specs.TableSets.{passed_of}
+use Rattle.common.specs.TableSets.{coded_of}
+use Rattle.common.proofs.Sets.{coded-lent}
 use Rattle.common.proofs.Configurations.{frame-ranges}
 use Rattle.tns_data.specs.Private.{Told, tns_of}
 use Rattle.frame_reader.proofs.Data.{weighting-most, rate-most}
@@ -24,5 +25,5 @@ read_pairs-requires c =
     let r = frame-ranges a.configuration (length a.buf.now) p.0 in
     let x = c.in_ok-first_order in
     let q : Told = (record { first = x.first_order; second = x.second_order; places = c.read_tns.new.indices; state = x.s; cursor = x.c }) in
-    let passes = tns-passes a.configuration a.ne a.buf.now (passed_of a.tables.now) a.tables.now.passed p.0 a.side a.state a.at c.weighting_row.result c.weighting_row.ensures q (sym c.read_tns.ensures ∙ ap (λ r. tns_of r c.read_tns.new.indices) x.was) p.1 in
+    let passes = tns-passes a.configuration a.ne a.buf.now (coded_of a.tables.now) (coded-lent a.tables.now) p.0 a.side a.state a.at c.weighting_row.result c.weighting_row.ensures q (sym c.read_tns.ensures ∙ ap (λ r. tns_of r c.read_tns.new.indices) x.was) p.1 in
     (record { short = omega (arith, r.4); range = passes }, rate-most c.rate_flag.result (8 * length a.buf.now) a.configuration.fs_ind c.rate_flag.ensures, omega arith, omega arith, omega arith)

@@ -5,7 +5,7 @@ use mathlib.Core.Bool.{true, not}
 use native.Mathlib.Omega.{arith}
 use lib.ListN.{length}
 use Rattle.std.proofs.Common.{ap}
-use Rattle.common.specs.TableSets.{passed_of}
+use Rattle.common.specs.TableSets.{coded_of}
 use Rattle.common.proofs.Bools.{confirmed}
 use Rattle.frame_writer.specs.Frame.{fields_pass}
 use Rattle.frame_writer.specs.Returned.{content_of, written_of}
@@ -22,9 +22,9 @@ pub write_fitting-requires : goal.write_fitting-requires
 write_fitting-requires c =
     let a = c.args in
     let p = c.requires in
-    (p.0, all-passed a.configuration (passed_of a.tables.now) a.ne (content_of a.content.now) (length a.frame.now) (passed (goal.at.write_fitting-requires c).Else-not-fields_pass) (none-fails (content_of a.content.now) c.first_failing-place.result c.first_failing-place.ensures c.if-place-content.false) p.1 p.2 (omega (arith, c.nonzero_written.ensures, c.if-nonzero_written-content.false)))
+    (p.0, all-passed a.configuration (coded_of a.tables.now) a.ne (content_of a.content.now) (length a.frame.now) (passed (goal.at.write_fitting-requires c).Else-not-fields_pass) (none-fails (content_of a.content.now) c.first_failing-place.result c.first_failing-place.ensures c.if-place-content.false) p.1 p.2 (omega (arith, c.nonzero_written.ensures, c.if-nonzero_written-content.false)))
 
 pub returns : goal.returns
 returns c =
     let a = c.args in
-    let p = answering (written_of c.write_fitting.result) c.write_fitting.new.frame a.frame.now (write_on a.configuration (passed_of a.tables.now) a.ne (content_of a.content.now) (length a.frame.now)) (write_fitting a.configuration (passed_of a.tables.now) a.ne (content_of a.content.now) (length a.frame.now)) (write-on a.configuration (passed_of a.tables.now) a.ne (content_of a.content.now) (length a.frame.now) (passed (goal.at.returns c).Else-not-fields_pass) (none-fails (content_of a.content.now) c.first_failing-place.result c.first_failing-place.ensures c.if-place-content.false) (omega (arith, c.nonzero_written.ensures, c.if-nonzero_written-content.false))) (c.write_fitting.ensures.answer, c.write_fitting.ensures.lent) in record { answer = p.0; lent = p.1 }
+    let p = answering (written_of c.write_fitting.result) c.write_fitting.new.frame a.frame.now (write_on a.configuration (coded_of a.tables.now) a.ne (content_of a.content.now) (length a.frame.now)) (write_fitting a.configuration (coded_of a.tables.now) a.ne (content_of a.content.now) (length a.frame.now)) (write-on a.configuration (coded_of a.tables.now) a.ne (content_of a.content.now) (length a.frame.now) (passed (goal.at.returns c).Else-not-fields_pass) (none-fails (content_of a.content.now) c.first_failing-place.result c.first_failing-place.ensures c.if-place-content.false) (omega (arith, c.nonzero_written.ensures, c.if-nonzero_written-content.false))) (c.write_fitting.ensures.answer, c.write_fitting.ensures.lent) in record { answer = p.0; lent = p.1 }

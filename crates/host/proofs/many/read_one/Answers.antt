@@ -7,7 +7,7 @@ use Rattle.common.specs.TableSets.{passed_of}
 use Rattle.frame_reader.specs.Frame.{read_frame}
 use Rattle.frame_reader.specs.Private.{shown}
 use Rattle.frame_reader.specs.Returned.{reply_of}
-use Rattle.frame_reader.proofs.Whole.{read-on, shown-parts}
+use Rattle.frame_reader.proofs.Whole.{read-coded, shown-parts}
 use Rattle.host.specs.Many.{one_if_read}
 use Rattle.host.proofs.Frames.{ok-read, read_told}
 use Rattle.host.proofs.many.read_one.Goals as goal
@@ -18,5 +18,5 @@ returns-clause-number c =
     let t = passed_of a.tables.now in
     let whole = read_frame a.configuration t (length a.lines.now) a.frame.now in
     let parts = shown-parts a.configuration.reading c.read-answer.result c.read-answer.new.lines a.lines.now whole
-    (c.read-answer.ensures ∙ ap (λ r. shown a.configuration.reading r a.lines.now) (sym (read-on a.configuration t (length a.lines.now) a.frame.now a.ne c.requires.0 a.tables.now.passed (le-ltb (length a.lines.now) a.ne c.requires.1)))) in
+    (c.read-answer.ensures ∙ ap (λ r. shown a.configuration.reading r a.lines.now) (read-coded a.configuration t (length a.lines.now) a.frame.now a.ne c.requires.0 a.tables.now.passed c.coded.result c.coded.ensures (le-ltb (length a.lines.now) a.ne c.requires.1))) in
     rw (c.from.ensures, c.is_ok.ensures.value) (ok-read reply_of c.read-answer.result.outcome ∙ ap one_if_read parts.0 ∙ read_told a.configuration.reading whole)

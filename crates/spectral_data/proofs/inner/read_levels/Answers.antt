@@ -7,7 +7,6 @@ use Rattle.coding.proofs.Keeps.{BothMoved, both-here, Behind, keeps-at}
 use Rattle.spectral_data.specs.declared.inner.Turn.{Turn}
 use Rattle.spectral_data.specs.Private.{Turned, escape, turn_by, turned_of}
 use Rattle.common.specs.Reply.{accepted}
-use Rattle.common.proofs.Sets.{lookup-passed, frequencies-passed}
 use Rattle.std.proofs.lemmas.Result.{err_from_is_err_and}
 use Rattle.buffer_reader.specs.declared.Cursor.{Cursor}
 use Rattle.coding.specs.Coding.{Coded}
@@ -30,7 +29,7 @@ turned : (c : In-Escape) → Behind BothMoved Turnwise c.args.buf.now c.loop-lev
 turned c =
     let a = c.args in
     let t = a.tables.now in
-    keeps-at (turn-going t.lookup.now t.frequencies.now (lookup-passed _ t.passed) (frequencies-passed _ t.passed) a.standard a.lsb a.p a.start c.loop-level.level (omega (arith, c.loop-level-test.true))) c.loop-level.here a.buf.now c.loop-level.place c.requires.0.short c.loop-level.invariant.2 (both-here a.buf.now c.loop-level.place) (escaped c)
+    keeps-at (turn-going t.lookup.now t.frequencies.now t.looked t.rows a.standard a.lsb a.p a.start c.loop-level.level (omega (arith, c.loop-level-test.true))) c.loop-level.here a.buf.now c.loop-level.place c.requires.0.short c.loop-level.invariant.2 (both-here a.buf.now c.loop-level.place) (escaped c)
 
 pub returns-in_err-last : goal.returns-in_err-last
 returns-in_err-last c =

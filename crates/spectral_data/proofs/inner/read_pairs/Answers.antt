@@ -10,7 +10,6 @@ use Rattle.coding.specs.Coding.{Coded}
 use Rattle.buffer_reader.specs.declared.Cursor.{Cursor}
 use Rattle.contexts.specs.Contexts.{lookup_start}
 use Rattle.common.specs.Reply.{accepted}
-use Rattle.common.proofs.Sets.{lookup-passed, frequencies-passed}
 use Rattle.std.proofs.lemmas.Result.{err_from_is_err_and}
 use native.Mathlib.Omega.{arith}
 use mathlib.Core.Path.{◌≡◌, sym, ap, ◌∙◌}
@@ -44,7 +43,7 @@ behind : (c : In_ok-read) → Behind BothMoved (Sized c.args.standard) c.args.bu
 behind c =
     let a = c.args in
     let t = a.tables.now in
-    keeps-at (pair-going t.lookup.now t.frequencies.now (lookup-passed _ t.passed) (frequencies-passed _ t.passed) a.standard a.lsb c.loop-p.p (lookup_start c.loop-p.context a.rate a.ne (2 * c.loop-p.p))) c.loop-p.here a.buf.now c.loop-p.place c.requires.0.short c.loop-p.invariant.1 (both-here a.buf.now c.loop-p.place) (pair_read c)
+    keeps-at (pair-going t.lookup.now t.frequencies.now t.looked t.rows a.standard a.lsb c.loop-p.p (lookup_start c.loop-p.context a.rate a.ne (2 * c.loop-p.p))) c.loop-p.here a.buf.now c.loop-p.place c.requires.0.short c.loop-p.invariant.1 (both-here a.buf.now c.loop-p.place) (pair_read c)
 
 pub loop-p-init : goal.loop-p-init
 loop-p-init c =

@@ -8,7 +8,6 @@ use Rattle.sending.specs.Sending.{sent}
 use Rattle.contexts.specs.Contexts.{row_of, escape_symbol}
 use Rattle.contexts.proofs.Lookups.{row_low}
 use Rattle.common.specs.Tables.{row_at}
-use Rattle.common.proofs.Sets.{lookup-passed, frequencies-passed}
 use lib.ListN.{length}
 use native.Mathlib.Omega.{arith}
 use mathlib.Core.Path.{refl, subst}
@@ -30,10 +29,10 @@ turn c =
 pub symbol-here-requires : goal.symbol-here-requires
 symbol-here-requires c =
     let a = c.args in
-    let looked = lookup-passed _ a.tables.now.passed in
+    let looked = a.tables.now.looked in
     let low : (t level : ℕ) → row_of a.tables.now.lookup.now t level ≤ 63 = row_low a.tables.now.lookup.now looked in
     let there : c.row-row.result ≤ 63 = rw c.row-row.ensures (search low) in (
-      omega (arith, there, frequencies-length a.tables.now.lookup.now a.tables.now.frequencies.now looked (frequencies-passed _ a.tables.now.passed)),
+      omega (arith, there, frequencies-length a.tables.now.lookup.now a.tables.now.frequencies.now looked a.tables.now.rows),
       rw c.row-row.ensures (ready-first a.writing c.loop-level.here (length c.loop-level.buf) _ _ (turn (goal.at.symbol-here-requires c).In-loop-level).ready),
     )
 

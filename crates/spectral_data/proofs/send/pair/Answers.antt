@@ -9,7 +9,6 @@ use Rattle.sending.specs.Private.{sent_all, laid_all}
 use Rattle.contexts.specs.Contexts.{row_of, escapes, pair_symbol}
 use Rattle.contexts.proofs.Lookups.{row_low}
 use Rattle.common.specs.Tables.{row_at}
-use Rattle.common.proofs.Sets.{lookup-passed, frequencies-passed}
 use lib.ListN.{length}
 use native.Mathlib.Omega.{arith}
 use mathlib.Core.Path.{◌≡◌, ap, ◌∙◌}
@@ -50,9 +49,9 @@ escapes-here-requires c =
 pub symbol-requires : goal.symbol-requires
 symbol-requires c =
     let a = c.args in
-    let looked = lookup-passed _ a.tables.now.passed in
+    let looked = a.tables.now.looked in
     let row = row_is (goal.at.symbol-requires c).After-row-row in (
-      omega (arith, row, row_low a.tables.now.lookup.now looked a.start (escapes a.a a.b), frequencies-length a.tables.now.lookup.now a.tables.now.frequencies.now looked (frequencies-passed _ a.tables.now.passed)),
+      omega (arith, row, row_low a.tables.now.lookup.now looked a.start (escapes a.a a.b), frequencies-length a.tables.now.lookup.now a.tables.now.frequencies.now looked a.tables.now.rows),
       rw (row, c.pair_symbol-symbol.ensures) (behind (goal.at.symbol-requires c).After-escapes-here).ready,
     )
 

@@ -17,7 +17,6 @@ use Rattle.coding.specs.Private.{symbol_met_of}
 use Rattle.tns_data.specs.Tns.{read_indices}
 use Rattle.tns_data.specs.Private.{indices_laid}
 use Rattle.coding.proofs.Keeps.{symbol-behind}
-use Rattle.common.proofs.Sets.{coefficients-passed}
 use Rattle.tns_data.proofs.inner.read_indices.Goals as goal
 
 pub loop-k-init : goal.loop-k-init
@@ -30,9 +29,9 @@ pub symbol-read-requires : goal.symbol-read-requires
 symbol-read-requires c =
     let cs = c.args.tables.now.coefficients.now in
     let p = c.requires in
-    let rows : (j : ℕ) → j < 8 → row_passes (row_at 17 j cs) ≡ true = λ j h. part-row 8 17 j cs (coefficients-passed _ c.args.tables.now.passed) h in
+    let rows : (j : ℕ) → j < 8 → row_passes (row_at 17 j cs) ≡ true = λ j h. part-row 8 17 j cs c.args.tables.now.index_rows h in
     let below : c.loop-k.k-counter < 8 = omega arith in
-    (p.0, c.loop-k.invariant.1, omega (arith, part_length 8 17 cs (coefficients-passed _ c.args.tables.now.passed)), search (rows, below, rules))
+    (p.0, c.loop-k.invariant.1, omega (arith, part_length 8 17 cs c.args.tables.now.index_rows), search (rows, below, rules))
 
 pub returns-in_err-index : goal.returns-in_err-index
 returns-in_err-index c =
@@ -52,7 +51,7 @@ loop-k-preserved c =
     let read : c.symbol-read.result ≡ Ok (c.in_ok-index.index, c.in_ok-index.next_state, c.in_ok-index.next) = search rules in
     let e = sym c.symbol-read.ensures ∙ ap symbol_met_of read in (
       rw length-set l.invariant.0,
-      (symbol-behind (row_at 17 k a.tables.now.coefficients.now) (part-row 8 17 k a.tables.now.coefficients.now (coefficients-passed _ c.args.tables.now.passed) (omega arith)) l.s a.buf.now l.c p.0 l.invariant.1 e).range,
+      (symbol-behind (row_at 17 k a.tables.now.coefficients.now) (part-row 8 17 k a.tables.now.coefficients.now c.args.tables.now.index_rows (omega arith)) l.s a.buf.now l.c p.0 l.invariant.1 e).range,
       sym (indices-turn a.tables.now.coefficients.now a.filter a.buf.now (8 * a.filter) a.order k l.s l.c l.indices c.loop-k-test.true e) ∙ l.invariant.2,
     )
 

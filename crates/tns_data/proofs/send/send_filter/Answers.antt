@@ -6,7 +6,6 @@ use Rattle.tns_data.specs.Sent.{sent_filter}
 use Rattle.tns_data.specs.Private.{filter_at}
 use Rattle.tns_data.proofs.Within.{part_length}
 use Rattle.tns_data.proofs.Leaves.{all_indices, filter-empty, order-ready, order-next}
-use Rattle.common.proofs.Sets.{orders-passed}
 use Rattle.tns_data.proofs.send.send_filter.Goals as goal
 
 pub returns-then-order-eq0 : goal.returns-then-order-eq0
@@ -18,7 +17,7 @@ pub symbol-s-requires : goal.symbol-s-requires
 symbol-s-requires c =
     let a = c.args in
     let p = c.requires in
-    (omega (arith, p.0, part_length 2 8 a.tables.now.orders.now (orders-passed _ c.args.tables.now.passed)), order-ready a.tables.now.orders.now a.tables.now.coefficients.now a.weighting a.from a.order a.indices a.writing a.st a.buf.now c.if-order-eq0.false p.4)
+    (omega (arith, p.0, part_length 2 8 a.tables.now.orders.now c.args.tables.now.order_rows), order-ready a.tables.now.orders.now a.tables.now.coefficients.now a.weighting a.from a.order a.indices a.writing a.st a.buf.now c.if-order-eq0.false p.4)
 
 pub send_indices-requires : goal.send_indices-requires
 send_indices-requires c =

@@ -3,7 +3,6 @@
 use native.Mathlib.Omega.{arith}
 use Rattle.tns_data.proofs.Within.{part_length}
 use Rattle.tns_data.proofs.Leaves.{indices-leave, indices-ready, indices-next, indices-done}
-use Rattle.common.proofs.Sets.{coefficients-passed}
 use Rattle.tns_data.proofs.send.send_indices.Goals as goal
 
 pub loop-k-init : goal.loop-k-init
@@ -15,7 +14,7 @@ pub symbol-s-requires : goal.symbol-s-requires
 symbol-s-requires c =
     let a = c.args in
     let p = c.requires in
-    (omega (arith, part_length 8 17 a.tables.now.coefficients.now (coefficients-passed _ c.args.tables.now.passed)), indices-ready a.writing a.st a.buf.now a.tables.now.coefficients.now a.indices a.from a.order c.loop-k.s c.loop-k.buf c.loop-k.k c.loop-k.invariant c.loop-k-test.true (omega (arith, p.0, p.1, p.2)))
+    (omega (arith, part_length 8 17 a.tables.now.coefficients.now c.args.tables.now.index_rows), indices-ready a.writing a.st a.buf.now a.tables.now.coefficients.now a.indices a.from a.order c.loop-k.s c.loop-k.buf c.loop-k.k c.loop-k.invariant c.loop-k-test.true (omega (arith, p.0, p.1, p.2)))
 
 pub loop-k-preserved : goal.loop-k-preserved
 loop-k-preserved c =
