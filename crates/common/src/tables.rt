@@ -53,14 +53,21 @@ impl<'a> PassedSet<'a> {
     pub fn coded(self) -> CodedTables<'a>
         ensures { coded_of result ≡ coded_in (passed_of self.entry) }
     {
+        let PassedSet {
+            lookup,
+            frequencies,
+            orders,
+            coefficients,
+            ..
+        } = self;
         CodedTables {
             pairs: PairTables {
-                lookup: self.lookup,
-                frequencies: self.frequencies,
+                lookup,
+                frequencies,
             },
             tns: TnsTables {
-                orders: self.orders,
-                coefficients: self.coefficients,
+                orders,
+                coefficients,
             },
         }
     }
