@@ -1,4 +1,4 @@
-// The table set as it is lent, and one that passes. The check that leads from the one to the other is in tables.
+// The table set as it is lent, one that passes, and what a frame is coded by. The calls that lead from each to the next are in tables.
 ghost use Rattle.std.specs.Prelude.{◌≡◌, true};
 ghost use Rattle.common.specs.Tables.{lookup_passes, part_passes, tables_pass, tables_of};
 
@@ -12,7 +12,7 @@ pub struct TableSet<'a> {
     pub coefficients: &'a [u16],
 }
 
-// A table set that passes. Behind the check the calls take this, so that none of them asks again.
+// A table set that passes.
 #[derive(Clone, Copy)]
 pub struct PassedSet<'a> {
     pub lookup: &'a [u8],

@@ -44,8 +44,8 @@ fn counted(st: EncoderState, frequency: u32) -> EncoderState
     widen(once)
 }
 
-// A symbol of a row. `writing` stays a flag: it is tested here and in `bit` alone, and a trait of two types would put ghost members and
-// a bound into twelve signatures.
+// A symbol of a row. `writing` stays a flag: it is tested here, in `bit`, and by the frame writer's early bits, and a trait of two types
+// would put ghost members and a bound into twelve signatures.
 fn of_row(
     buf: &mut [u8],
     st: EncoderState,
