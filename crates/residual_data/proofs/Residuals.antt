@@ -1,6 +1,6 @@
 -- The residual list, one line and one bit at a time: a line that is not 0 counts one, and while there is room it takes the next bit.
 -- Assumes nothing.
-use Rattle.std.proofs.Common.{◌≡◌, ℕ, zero, suc, ◌+◌, ◌<◌, ◌≤◌, min, cond, eqb, List, [], ◌∷◌, ◌++◌, length, get_or, drop, set, ℤ, nat_abs, refl, ap, ◌∙◌, append_assoc, add-zero, zero-add, not, count_by, add-one, arith, drop-cons}
+use Rattle.std.proofs.Common.{◌≡◌, ℕ, zero, suc, ◌+◌, ◌<◌, ◌≤◌, min, cond, eqb, List, [], ◌∷◌, ◌++◌, length, get_or, drop, set, ℤ, nat_abs, refl, ap, ◌∙◌, append_assoc, add-zero, zero-add, not, count_by, add-one, arith, drop-cons, take, pos, take-suc}
 use lib.Seq.{set_at}
 use Rattle.std.proofs.lemmas.List.Recursion.{is_count_by}
 use Rattle.common.proofs.Bools.{by-test}
@@ -19,6 +19,18 @@ counts-most x = by-test (eqb (nat_abs x) 0) (λ e. rw e (omega arith)) (λ e. rw
 pub nonzero-counted : (xs : List ℤ) → nonzero xs ≡ count_by (λ x. not (eqb (nat_abs x) 0)) xs
 unfolding nonzero
 nonzero-counted xs = is_count_by nonzero (λ x. not (eqb (nat_abs x) 0)) refl (λ y ys. by-test (eqb (nat_abs y) 0) (λ e. rw (e, zero-add) refl) (λ e. rw e refl)) xs
+
+pub nonzero-none : (lines : List ℤ) → 0 ≡ nonzero (take 0 lines)
+unfolding nonzero
+nonzero-none lines = refl
+
+nonzero-append : (xs : List ℤ) (x : ℤ) → nonzero (xs ++ (x ∷ [])) ≡ nonzero xs + counts x
+unfolding nonzero
+nonzero-append [] x = omega arith
+nonzero-append (y ∷ ys) x = rw (nonzero-append ys x) (omega arith)
+
+pub nonzero-turn : (lines : List ℤ) (k : ℕ) → k < length lines → nonzero (take (k + 1) lines) ≡ nonzero (take k lines) + counts (get_or lines k (pos 0))
+nonzero-turn lines k h = rw (add-one, take-suc lines k (pos 0) h) (nonzero-append (take k lines) (get_or lines k (pos 0)))
 
 pub nonzero-most : (xs : List ℤ) → nonzero xs ≤ length xs
 unfolding nonzero

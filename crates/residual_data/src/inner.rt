@@ -43,7 +43,12 @@ pub fn nonzero(lines: &[i32], ne: usize) -> usize
     requires { ne ≤ length lines.now }
     ensures { (result ≡ Residual·nonzero (take ne lines.now)) × (result ≤ ne) }
 {
-    lines[..ne].iter().filter(|line| **line != 0).count()
+    // counted without a branch, which the lines of a real frame would make a processor miss
+    let mut n = 0;
+    for k in 0..ne {
+        n += usize::from(magnitude(lines[k]) != 0);
+    }
+    n
 }
 
 // As many tail bits from a place on as there are places, each apart.
