@@ -1,5 +1,5 @@
 -- What was written so far, and what is still to come of the steps' texts. Assumes nothing.
-use Rattle.std.proofs.Common.{◌≡◌, refl, sym, ap, ◌∙◌, subst, ℕ, zero, suc, ◌+◌, ◌-◌, ◌≤◌, ◌<◌, List, [], ◌++◌, length, take, drop, arith, append_assoc, Option, None, Some}
+use Rattle.std.proofs.Common.{◌≡◌, refl, sym, ap, ◌∙◌, subst, ℕ, zero, suc, ◌+◌, ◌-◌, ◌≤◌, ◌<◌, List, [], ◌++◌, length, take, drop, arith, append-nil, append_assoc, Option, None, Some}
 use lib.Seq.{sets, sets-eq, length-sets, take_at}
 use Rattle.std.specs.Io.KnownBytes.{Appends}
 use Rattle.std.proofs.KnownBytes.{Appends-nil, Appends-trans}
@@ -50,6 +50,11 @@ pub record Told (old new : Option (List ℕ)) (p : Option Place) (tables : Table
 pub told_start : (known : Option (List ℕ)) (state : State) (tables : Tables) (input : List ℕ) → state ≡ started → Told known known (Some (0, state)) tables input (steps_text (suc (length input)) (record { state = started; tables = tables }) input 0)
 told_start known state tables input e =
     record { fuel = suc (length input); said = []; enough = omega arith; written = Appends-nil known; rest = rw e refl }
+
+pub told_end : (old new : Option (List ℕ)) (p : Option Place) (tables : Tables) (input whole : List ℕ) → p ≡ None → Told old new p tables input whole → Appends old new whole
+told_end old new p tables input whole over t =
+    let all : whole ≡ t.said = t.rest ∙ ap (λ (q : Option Place). t.said ++ to_come t.fuel q tables input) over ∙ append-nil t.said in
+    subst (Appends old new) (sym all) t.written
 
 module _ (old mid new : Option (List ℕ)) (p : Place) (before after : Tables) (input whole : List ℕ) where
   abbrev step : Step

@@ -61,7 +61,17 @@ fn turn<W: Write>(
     ensures leads { let s = step_at (held (offset, state) (tables_in tables.old)) input.now offset in
         IfOk result (λ next. Leads s.next s.held next (tables_in tables.new)) }
 {
-    let step = dumping::inner::step(input, offset, state, tables, text);
+    let step = dumping::inner::step(
+        input,
+        offset,
+        state,
+        &mut tables.lookup,
+        &mut tables.frequencies,
+        &mut tables.bits,
+        &mut tables.orders,
+        &mut tables.coefficients,
+        text,
+    );
     put(to, text, step.text)?;
     match step.next {
         Onward::At(next) => Ok(Some((next, step.state))),
