@@ -7,7 +7,7 @@ ghost use Rattle.common.specs.TableSets.{set_of};
 ghost use Rattle.frame_reader.specs.Frame.{read_frame};
 ghost use Rattle.frame_reader.specs.Returned.{reply_of, told, indices_of, residual_of, lines_behind};
 ghost use Rattle.common.specs.Configuration.{reply_of as Configuration·reply_of};
-ghost use Rattle.spectral_data.specs.Private.{error_of};
+ghost use Rattle.spectral_data.specs.Returned.{error_of};
 ghost use Rattle.frame_reader.specs.declared.FrameError.TheVariants.{Step};
 
 pub mod inner;

@@ -29,7 +29,7 @@ use Rattle.frame_writer.specs.Frame.{Content, symbols_of, fields_bits, least_bit
 use Rattle.frame_writer.specs.Private.{Judged, Passed, held_by}
 use Rattle.frame_writer.proofs.Fields.{fields-bits-length, fields-put}
 use Rattle.frame_writer.proofs.Frames.{shifts-below, tail-room, frame-laid}
-use Rattle.frame_writer.proofs.Streams.{early-length, early-few, pairs-there, symbols-pass, may-send, sound-sent}
+use Rattle.frame_writer.proofs.Streams.{early-length, early-passed, pairs-there, symbols-pass, may-send, sound-sent}
 
 -- the pairs' bits counted behind the fields' length
 pub early-counted : (fs ne : ℕ) (w : Content) (place r : ℕ) → place ≡ side_length fs ne w.side → r ≡ place + length (pairs_bits (least_bit w) w.lines 0 (w.side.lastnz / 2)) → r ≡ length (early_bits fs ne w)
@@ -55,7 +55,7 @@ early-put false fs ne w place f g h at fields pairs = pairs ∙ fields
 -- where they may be
 pub early-puts : (writing : Bool) (k : Configuration) (ne : ℕ) (w : Content) (place : ℕ) (f g : List ℕ) → Judged k ne (length f) → Passed k.fs_ind ne w → place ≡ side_length k.fs_ind ne w.side → length g ≡ length f → (writing ≡ true → length (early_bits k.fs_ind ne w) ≤ 8 * length f) → Puts writing g place (length (pairs_bits (least_bit w) w.lines 0 (w.side.lastnz / 2)))
 early-puts writing k ne w place f g j p at size room =
-    let few = early-few k ne (length f) w j p in
+    let few = early-passed k ne (length f) w j p in
     let sum = early-length k.fs_ind ne w in
     record { few = omega (arith, at, few, sum); short = omega (arith, j.short, size); room = λ e. omega (arith, at, room e, sum, size) }
 
@@ -73,8 +73,8 @@ module _ (k : Configuration) (t : Tables) (passes : coded_pass t ≡ true) (ne :
     clear-length : length g ≡ length f
     clear-length = ap length clear ∙ length-replicate (length f) 0
 
-    pub send-asked : Judged k ne (length g) × Passed k.fs_ind ne w × Ready true start_encoder (length g) (symbols_of k t (8 * length g) ne w)
-    send-asked = rw clear-length (j, p, may-send k t passes ne (length f) w j p (omega (arith, room)))
+    pub cleared-asked : Judged k ne (length g) × Passed k.fs_ind ne w × Ready true start_encoder (length g) (symbols_of k t (8 * length g) ne w)
+    cleared-asked = rw clear-length (j, p, may-send k t passes ne (length f) w j p (omega (arith, room)))
 
     pub state-is : (s : EncoderState) → s ≡ sent_all true start_encoder (symbols_of k t (8 * length g) ne w) → s ≡ state_behind start_encoder symbols
     state-is s is =

@@ -2,10 +2,11 @@
 -- of the head has a tail bit. And the room on the way: refusal 16 leaves room for all of it. Assumes nothing.
 use Prim.Native.Nat.{ℕ, ◌+◌, ◌-◌, ◌*◌, ◌≤◌}
 use mathlib.Core.Path.{◌≡◌, sym, ap, ◌∙◌}
-use mathlib.Core.List.{List, ◌++◌}
+use mathlib.Core.List.{List, ◌++◌, append-nil}
 use native.Mathlib.Omega.{arith}
 use lib.Dec.{eqb}
-use lib.ListN.{length, length-append, length-take, take, replicate, length-replicate}
+use lib.ListN.{length, length-append, length-take, take, drop_of_length-le, replicate, length-replicate}
+use lib.Seq.{sets, sets-eq}
 use Rattle.common.proofs.Bools.{by-test}
 use Rattle.common.proofs.Lasts.{log-range}
 use Rattle.range_encoder.specs.Encoder.{start_encoder, shifts_of}
@@ -19,6 +20,14 @@ use Rattle.range_encoder.proofs.Laid.{written-own}
 use Rattle.sending.specs.Sending.{Bit, put_bits, laid}
 use Rattle.sending.proofs.Stands.{laid-puts}
 use Rattle.frame_writer.specs.Frame.{reserved, held_back}
+
+-- a frame of zeros
+pub cleared : (f : List ℕ) → sets f 0 (replicate (length f) 0) ≡ replicate (length f) 0
+cleared f =
+    let size : length {A = ℕ} (replicate (length f) 0) ≡ length f = length-replicate (length f) 0 in
+    sets-eq (replicate (length f) 0) f 0 (omega (arith, size)) ∙
+    ap (λ (rest : List ℕ). replicate (length f) 0 ++ rest) (drop_of_length-le f {i = 0 + length {A = ℕ} (replicate (length f) 0)} (omega (arith, size))) ∙
+    append-nil (replicate (length f) 0)
 
 module _ (symbols : List Sent) (all : AllPass symbols) where
   sound : Sound (state_behind start_encoder symbols)

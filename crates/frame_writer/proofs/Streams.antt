@@ -5,6 +5,8 @@ use mathlib.Core.Path.{◌≡◌, sym, ap, ap₂, subst, ◌∙◌}
 use mathlib.Core.Bool.{Bool, true, false}
 use mathlib.Core.List.{List, [], ◌++◌, append-nil}
 use native.Mathlib.Omega.{arith}
+use lib.Dec.{eqb}
+use lib.IntN.{ℤ}
 use lib.ListN.{length, length-append}
 use Rattle.common.specs.Tables.{Tables, coded_pass}
 use Rattle.common.specs.declared.configuration.Configuration.{Configuration}
@@ -48,9 +50,14 @@ pairs-there fs ne side most e =
     let l = (side-limits fs ne side e).last in
     (omega (arith, l), omega (arith, l, most), l)
 
-pub early-few : (k : Configuration) (ne n : ℕ) (w : Content) → Judged k ne n → Passed k.fs_ind ne w → length (early_bits k.fs_ind ne w) ≤ 6074
-early-few k ne n w j p =
-    omega (arith, early-length k.fs_ind ne w, (length-range k.fs_ind ne w.side j.fs-low j.least j.most).1, pairs-bits-few (least_bit w) w.lines 0 (w.side.lastnz / 2), (pairs-there k.fs_ind ne w.side j.most p.sides).1)
+pub early-few : (fs ne : ℕ) (side : SideInfo) (lines : List ℤ) → fs ≤ 4 → 60 ≤ ne → ne ≤ 400 → side_passes fs ne side ≡ true → side_length fs ne side + length (pairs_bits (eqb side.lsb 1) lines 0 (side.lastnz / 2)) ≤ 6074
+early-few fs ne side lines low least most e =
+    omega (arith, (length-range fs ne side low least most).1, pairs-bits-few (eqb side.lsb 1) lines 0 (side.lastnz / 2), (pairs-there fs ne side most e).1)
+
+-- of content that passes
+pub early-passed : (k : Configuration) (ne n : ℕ) (w : Content) → Judged k ne n → Passed k.fs_ind ne w → length (early_bits k.fs_ind ne w) ≤ 6074
+early-passed k ne n w j p =
+    omega (arith, early-length k.fs_ind ne w, early-few k.fs_ind ne w.side w.lines j.fs-low j.least j.most p.sides)
 
 -- a state behind symbols that could be counted or sent
 pub ready-end : {writing : Bool} {s : EncoderState} {n : ℕ} (xs : List Sent) → Ready writing s n xs → Ready writing (sent_all writing s xs) n []
@@ -123,6 +130,15 @@ module _ (k : Configuration) (t : Tables) (passes : coded_pass t ≡ true) (ne n
   pub may-send : reserved (symbols_of k t (8 * n) ne w) ≤ 8 * n → Ready true start_encoder n (symbols_of k t (8 * n) ne w)
   may-send room =
       send-ready n (symbols_of k t (8 * n) ne w) symbols-pass (omega (arith, j.short)) (omega (arith, symbols-few)) (omega (arith, room, shifts-below (symbols_of k t (8 * n) ne w) symbols-pass))
+
+  -- for sending from the encoder's start, where E has room
+  pub send-asked : (st : EncoderState) → st ≡ start_encoder → reserved (symbols_of k t (8 * n) ne w) ≤ 8 * n →
+      (coded_pass t ≡ true) × Judged k ne n × (w.first ≤ 8) × (w.second ≤ 8) × (length w.indices ≡ 16) × (2 * (w.side.lastnz / 2) ≤ length w.lines) × (w.side.lastnz / 2 ≤ 200) × Ready true st n (symbols_of k t (8 * n) ne w)
+  send-asked st start room =
+      let g = tns-given w.side.tns_first w.side.tns_second w.first w.second w.indices p.filters in
+      let there = pairs-there k.fs_ind ne w.side j.most p.sides in
+      rw start
+      (passes, j, g.0.most, g.1.most, p.sixteen, omega (arith, there.0, p.count), there.1, may-send room)
 
   -- what the count leaves: a state of which E may be asked, and it is the encoder's
   pub count-behind : (s : EncoderState) → s ≡ sent_all false start_encoder (symbols_of k t (8 * n) ne w) → (Fits s) × (0x10000 ≤ s.range) × (shifts_of s ≤ 65535) × (reserved_of s ≡ reserved (symbols_of k t (8 * n) ne w))

@@ -2,10 +2,6 @@
 use Rattle.std.specs.Prelude.{ℕ, ◌+◌, ◌*◌, ◌≤◌, ◌≡◌, Bool, true, not, cond, ◌&&◌, ◌||◌, List, ltb, leb, eqb, ℤ, length}
 use Rattle.common.specs.Reply.{Answer, accepted, given, field_outside, line_outside, residual_too_long, no_room}
 use Rattle.common.specs.Tables.{Tables}
-use Rattle.common.specs.declared.configuration.ConfigurationError.{ConfigurationError}
-use Rattle.common.specs.declared.configuration.ConfigurationError.TheVariants.{OutsideLimits as ConfigurationOutside, WrongLength as ConfigurationLength}
-use Rattle.frame_writer.specs.declared.WriteError.{WriteError}
-use Rattle.frame_writer.specs.declared.WriteError.TheVariants.{OutsideLimits, WrongLength}
 use Rattle.common.specs.declared.configuration.Configuration.{Configuration}
 use Rattle.contexts.specs.Lines.{magnitude_at}
 use Rattle.side_info.specs.Record.{side_passes}
@@ -31,11 +27,6 @@ pub record Passed (fs ne : ℕ) (w : Content) : Type 0 where
   pub filters : tns_passes w.side.tns_first w.side.tns_second w.first w.second w.indices ≡ true
   pub modest : (k : ℕ) → magnitude_at w.lines k ≤ 32767
   pub few : length w.residual ≤ nonzero w.lines
-
--- what each error from below says here
-abbrev pub of_configuration : ConfigurationError → WriteError
-of_configuration ConfigurationOutside = OutsideLimits
-of_configuration (ConfigurationLength len) = WrongLength len
 
 -- what the late bits are cut by, by the state that the code has
 abbrev pub held_by : ℕ → EncoderState → ℕ

@@ -1,6 +1,8 @@
 -- What the call answers, and what the lent frame holds behind it: a refused call changes nothing.
 use Rattle.std.specs.Prelude.{Result, Ok, Err, List, ℕ}
 use Rattle.common.specs.Reply.{Reply, Answer, accepted, refused, and_then, outside_limits, wrong_length, tables_fail, wrong_count, field_outside, line_outside, residual_too_long, no_room}
+use Rattle.common.specs.declared.configuration.ConfigurationError.{ConfigurationError}
+use Rattle.common.specs.declared.configuration.ConfigurationError.TheVariants.{OutsideLimits as ConfigurationOutside, WrongLength as ConfigurationLength}
 use Rattle.frame_writer.specs.Frame.{Content}
 use Rattle.frame_writer.specs.declared.Content.{Content as Lent}
 use Rattle.frame_writer.specs.declared.WriteError.{WriteError}
@@ -16,6 +18,11 @@ reply_of FieldOutside = field_outside
 reply_of (LineOutside place) = line_outside place
 reply_of ResidualTooLong = residual_too_long
 reply_of NoRoom = no_room
+
+-- what each error from below says here
+abbrev pub of_configuration : ConfigurationError → WriteError
+of_configuration ConfigurationOutside = OutsideLimits
+of_configuration (ConfigurationLength len) = WrongLength len
 
 -- what is lent to be written
 abbrev pub content_of : Lent → Content

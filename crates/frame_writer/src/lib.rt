@@ -4,8 +4,7 @@
 ghost use Rattle.std.specs.Prelude.{◌≡◌, length};
 ghost use Rattle.common.specs.TableSets.{set_of};
 ghost use Rattle.frame_writer.specs.Frame.{write_frame};
-ghost use Rattle.frame_writer.specs.Returned.{content_of, written_of, told, frame_behind};
-ghost use Rattle.frame_writer.specs.Private.{of_configuration};
+ghost use Rattle.frame_writer.specs.Returned.{of_configuration, content_of, written_of, told, frame_behind};
 
 pub mod inner;
 

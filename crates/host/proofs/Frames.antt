@@ -66,13 +66,19 @@ module _ (read : List ℕ → Answer Frame) (bytes : ℕ) where
   none_left : (f : List ℕ) → length f < bytes → length f / bytes ≡ 0
   none_left f h = div-eq_of_lt h
 
-  pub accepted-end : (f : List ℕ) → length f < bytes → accepted_of read (length f / bytes) bytes f ≡ 0
+  pub accepted-end : (left : ℕ) (f : List ℕ) → left ≤ 0 → accepted_of read left bytes f ≡ 0
   unfolding accepted_of
-  accepted-end f h = rw (none_left f h) refl
+  accepted-end left f h = let e : left ≡ 0 = omega arith in rw e refl
 
-  pub lines_end : (f : List ℕ) (before : List ℤ) → length f < bytes → lines_after read (length f / bytes) bytes f before ≡ before
+  pub lines_end : (left : ℕ) (f : List ℕ) (before : List ℤ) → left ≤ 0 → lines_after read left bytes f before ≡ before
   unfolding lines_after
-  lines_end f before h = rw (none_left f h) refl
+  lines_end left f before h = let e : left ≡ 0 = omega arith in rw e refl
+
+  pub accepted-rest : (f : List ℕ) → length f < bytes → accepted_of read (length f / bytes) bytes f ≡ 0
+  accepted-rest f h = accepted-end (length f / bytes) f (omega (arith, none_left f h))
+
+  pub lines_rest : (f : List ℕ) (before : List ℤ) → length f < bytes → lines_after read (length f / bytes) bytes f before ≡ before
+  lines_rest f before h = lines_end (length f / bytes) f before (omega (arith, none_left f h))
 
   -- each frame of this length is refused
   module _ (none : (g : List ℕ) → length g ≡ bytes → (r : Reply) × (read g ≡ refused r)) where
@@ -109,7 +115,7 @@ module _ (k : Configuration) (t : Tables) (count bytes : ℕ) (frames : List ℕ
     sym (none-lines (read_frame k t count) bytes none (length frames / bytes) frames before (all_fit frames bytes)),
   )
 
-  lines-nothing : {r : Reply} → frame_lines k bytes ≡ refused r → Nothing
+  pub lines-nothing : {r : Reply} → frame_lines k bytes ≡ refused r → Nothing
   lines-nothing {r} e = nothing (λ g s. (r, lines-refused k t count g (ap (λ (n : ℕ). frame_lines k n) s ∙ e)))
 
   -- no lines are what the checks answer

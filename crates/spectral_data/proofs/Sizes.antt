@@ -1,17 +1,24 @@
 -- How large the numbers of a pair are: fewer than 2^n from n low bits, at most 32,767 before the fourteenth escape, at most 81,919
--- behind it. Assumes nothing.
-use Prim.Native.Nat.{ℕ, zero, suc, ◌+◌, ◌*◌, ◌^◌, ◌≤◌, ◌<◌}
-use mathlib.Core.Path.{◌≡◌, refl}
+-- behind it. And a magnitude with its sign, as the machine works it out in 32 bits. Assumes nothing.
+use Prim.Native.Nat.{ℕ, zero, suc, ◌+◌, ◌*◌, ◌%◌, ◌^◌, ◌≤◌, ◌<◌}
+use mathlib.Core.Path.{◌≡◌, refl, ap, ◌∙◌}
 use mathlib.Core.Bool.{Bool, true, false, cond}
 use mathlib.Core.Logic.{⊎_elim}
 use native.Mathlib.Omega.{arith}
 use native.Mathlib.Nat.{mul-le-mul, pow-le-pow_right, pow-suc, zero-mul}
 use native.Mathlib.Numerals.{add-one}
-use lib.IntN.{pos, neg_ℤ, nat_abs}
+use lib.IntN.{ℤ, pos, neg_ℤ, nat_abs, ◌-ℤ◌, +ℤ_idl}
+use mir.Syntax.{w32}
+use mir.Val.{SFits, to_z, of_z}
+use mir.ValLaws.{to_z_pos, to_z-of_z}
 use Rattle.contexts.specs.Contexts.{first_part, second_part, next_context}
 use Rattle.contexts.proofs.Escapes.{parts_low}
 use Rattle.contexts.proofs.Lookups.{context-most}
-use Rattle.spectral_data.specs.Spectral.{Levels}
+use Rattle.common.specs.Reply.{Answer, accepted}
+use Rattle.buffer_reader.specs.declared.Cursor.{Cursor}
+use Rattle.range_decoder.specs.declared.DecoderState.{DecoderState}
+use Rattle.coding.specs.Coding.{Coded}
+use Rattle.spectral_data.specs.Spectral.{Levels, Pair}
 use Rattle.spectral_data.specs.Private.{Bounded}
 
 pub power-most : (level most : ℕ) → level ≤ most → 2 ^ level ≤ 2 ^ most
@@ -22,6 +29,9 @@ pub raised-most : (part level : ℕ) → part ≤ 4 → level ≤ 14 → part * 
 raised-most part level p l =
     let m : part * 2 ^ level ≤ 4 * 2 ^ 14 = mul-le-mul p (power-most level 14 l) in
     omega arith
+
+pub raised-exact : (part level : ℕ) → part ≤ 4 → level ≤ 14 → (part * 2 ^ level) % 4294967296 ≡ part * 2 ^ level
+raised-exact part level p l = omega (arith, raised-most part level p l)
 
 -- one low bit more
 pub low-more : (level a x : ℕ) → a < 2 ^ level → x ≤ 1 → a + x * 2 ^ level < 2 ^ (level + 1)
@@ -79,6 +89,41 @@ pub signed-size : (minus : Bool) (n : ℕ) → nat_abs (cond minus (neg_ℤ (pos
 signed-size true zero = refl
 signed-size true (suc n) = refl
 signed-size false n = refl
+
+module _ (n : ℕ) (small : n ≤ 81919) where
+  negated : pos 0 -ℤ to_z w32 n ≡ neg_ℤ (pos n)
+  negated = ap (λ (z : ℤ). pos 0 -ℤ z) (to_z_pos w32 n (omega arith)) ∙ +ℤ_idl (neg_ℤ (pos n))
+
+  negative_fits : (m : ℕ) → m ≤ 81919 → SFits w32 (neg_ℤ (pos m))
+  negative_fits zero h = record { sfits = omega arith }
+  negative_fits (suc m) h = record { sfits = omega arith }
+
+  pub negated_fits : SFits w32 (pos 0 -ℤ to_z w32 n)
+  negated_fits = rw negated (negative_fits n small)
+
+  pub minus-line : to_z w32 (of_z w32 (pos 0 -ℤ to_z w32 n)) ≡ neg_ℤ (pos n)
+  minus-line = to_z-of_z w32 (pos 0 -ℤ to_z w32 n) negated_fits ∙ negated
+
+  pub plus-line : to_z w32 n ≡ pos n
+  plus-line = to_z_pos w32 n (omega arith)
+
+  line-fits : (minus : Bool) → SFits w32 (cond minus (neg_ℤ (pos n)) (pos n))
+  line-fits true = negative_fits n small
+  line-fits false = record { sfits = omega arith }
+
+  -- a line that is handed on
+  pub line_kept : (minus : Bool) (z : ℤ) → z ≡ cond minus (neg_ℤ (pos n)) (pos n) → to_z w32 (of_z w32 z) ≡ cond minus (neg_ℤ (pos n)) (pos n)
+  line_kept minus z e =
+      ap (λ (y : ℤ). to_z w32 (of_z w32 y)) e ∙ to_z-of_z w32 (cond minus (neg_ℤ (pos n)) (pos n)) (line-fits minus)
+
+-- two lines that are handed on
+pub pair_same : {escapes last : ℕ} {s : DecoderState} {c : Cursor} (x y : ℤ) → SFits w32 x → SFits w32 y →
+    ◌≡◌ {A = Answer (Coded Pair × Cursor)}
+    (accepted (record { value = record { escapes = escapes; last = last; first = to_z w32 (of_z w32 x); second = to_z w32 (of_z w32 y) }; state = s }, c))
+    (accepted (record { value = record { escapes = escapes; last = last; first = x; second = y }; state = s }, c))
+pair_same {escapes = e} {last = l} {s = s} {c = c} x y p q =
+    ap (λ (z : ℤ). accepted (record { value = record { escapes = e; last = l; first = z; second = to_z w32 (of_z w32 y) }; state = s }, c)) (to_z-of_z w32 x p)
+    ∙ ap (λ (z : ℤ). accepted (record { value = record { escapes = e; last = l; first = x; second = z }; state = s }, c)) (to_z-of_z w32 y q)
 
 -- ---- contexts
 

@@ -1,4 +1,5 @@
 pub mod Sent
 pub mod Spectral
 pub mod InCrate
+pub mod Returned
 pub mod Private

@@ -1,6 +1,6 @@
 -- Not needed to believe anything: what private contracts and proofs here speak by. No public contract cites it.
 use Rattle.std.specs.Prelude.{Result, Ok, Err, ℕ, ◌+◌, ◌*◌, ◌^◌, ◌≤◌, ◌<◌, ◌≡◌, Bool, true, cond, List, ◌++◌, ◌⊎◌, ltb, ℤ, length, drop}
-use Rattle.common.specs.Reply.{Reply, Answer, accepted, refused, symbol, fourteen_escapes}
+use Rattle.common.specs.Reply.{Answer, accepted, refused, symbol}
 use Rattle.common.specs.Tables.{row_at}
 use Rattle.contexts.specs.Contexts.{row_of, escape_symbol, first_part, second_part}
 use Rattle.contexts.specs.Lines.{magnitude_at}
@@ -13,8 +13,8 @@ use Rattle.coding.specs.Coding.{Coded, Coding, done, onward, met, symbol_by, met
 use Rattle.coding.specs.declared.Met.{Met}
 use Rattle.spectral_data.specs.Spectral.{Pair, Levels, behind_escape, read_sign, lines_of}
 use Rattle.spectral_data.specs.Spectral.{levels_of as levels_in·pairs}
+use Rattle.spectral_data.specs.Returned.{error_of}
 use Rattle.spectral_data.specs.declared.inner.PairsError.{PairsError}
-use Rattle.spectral_data.specs.declared.inner.PairsError.TheVariants.{Step, FourteenEscapes}
 use Rattle.spectral_data.specs.declared.inner.Turn.{Turn}
 use Rattle.spectral_data.specs.declared.inner.Turn.TheVariants.{Last, Escape}
 use Rattle.spectral_data.specs.declared.inner.Levels.{Levels as LevelsHeld}
@@ -66,10 +66,6 @@ filling n lines levels pairs =
     onward pairs (λ read. done (lines_of read ++ drop (2 * n) lines, levels_in·pairs read ++ drop n levels))
 
 -- what each enum and struct of the code says
-abbrev pub error_of : PairsError → Reply
-error_of (Step m) = met_of m
-error_of (FourteenEscapes p) = fourteen_escapes p
-
 abbrev pub low_of : DecoderState → Result (ℕ × ℕ × Cursor) PairsError → Answer (Coded (ℕ × ℕ) × Cursor)
 low_of s (Ok (a, b, c)) = accepted (record { value = (a, b); state = s }, c)
 low_of s (Err e) = refused (error_of e)

@@ -10,7 +10,7 @@ use Rattle.range_encoder.specs.Runs.{state_behind}
 use Rattle.sending.proofs.Puts.{put-bits-length}
 use Rattle.frame_writer.specs.Frame.{symbols_of}
 use Rattle.frame_writer.specs.Returned.{content_of}
-use Rattle.frame_writer.proofs.Fills.{send-asked, state-is, head-is, head-length, held-asked, late_asked, finish-asked, filled}
+use Rattle.frame_writer.proofs.Fills.{cleared-asked, state-is, head-is, head-length, held-asked, late_asked, finish-asked, filled}
 use Rattle.frame_writer.proofs.inner.fill.Goals as goal
 use Rattle.frame_writer.proofs.inner.fill.Goals.{After-fill, After-put_early-early, After-put_late, After-send_symbols-st}
 
@@ -48,7 +48,7 @@ pub send_symbols-st-requires : goal.send_symbols-st-requires
 send_symbols-st-requires c =
     let a = c.args in
     let p = c.requires in
-    send-asked a.configuration (coded_of a.tables.now) (coded-lent a.tables.now) a.ne (content_of a.content.now) a.frame.now p.0 p.1 p.2 c.fill.new.self (cleared (goal.at.send_symbols-st-requires c).After-fill)
+    cleared-asked a.configuration (coded_of a.tables.now) (coded-lent a.tables.now) a.ne (content_of a.content.now) a.frame.now p.0 p.1 p.2 c.fill.new.self (cleared (goal.at.send_symbols-st-requires c).After-fill)
 
 pub held_back-requires : goal.held_back-requires
 held_back-requires c =

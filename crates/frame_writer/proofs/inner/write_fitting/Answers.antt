@@ -7,11 +7,11 @@ use lib.ListN.{length}
 use Rattle.common.specs.TableSets.{coded_of}
 use Rattle.common.proofs.Sets.{coded-lent}
 use Rattle.common.proofs.Lasts.{log-range}
-use Rattle.range_encoder.specs.Encoder.{shifts_of, reserved_of}
+use Rattle.range_encoder.specs.Encoder.{start_encoder, shifts_of, reserved_of}
 use Rattle.range_encoder.specs.Private.{Fits}
 use Rattle.frame_writer.specs.Frame.{symbols_of, reserved}
 use Rattle.frame_writer.specs.Returned.{content_of}
-use Rattle.frame_writer.proofs.Streams.{early-few, count-asked-at, count-behind-at}
+use Rattle.frame_writer.proofs.Streams.{early-passed, count-asked-at, count-behind-at}
 use Rattle.frame_writer.proofs.Answers.{counted-keeps, refused-room, fill-asked, frame-filled}
 use Rattle.frame_writer.proofs.inner.write_fitting.Goals as goal
 use Rattle.frame_writer.proofs.inner.write_fitting.Goals.{After-send_symbols-st}
@@ -20,7 +20,7 @@ use Rattle.frame_writer.proofs.inner.write_fitting.Goals.{After-send_symbols-st}
 kept : (c : After-send_symbols-st) → c.send_symbols-st.new.buf ≡ c.args.frame.now
 kept c =
     let a = c.args in
-    counted-keeps a.configuration (coded_of a.tables.now) a.ne (content_of a.content.now) a.frame.now c.put_early-early.new.buf c.send_symbols-st.new.buf c.put_early-early.ensures.lent c.send_symbols-st.ensures.lent
+    counted-keeps a.configuration (coded_of a.tables.now) a.ne (content_of a.content.now) start_encoder a.frame.now c.put_early-early.new.buf c.send_symbols-st.new.buf c.put_early-early.ensures.lent c.send_symbols-st.ensures.lent
 
 counted : (c : After-send_symbols-st) → let a = c.args in (Fits c.send_symbols-st.result) × (0x10000 ≤ c.send_symbols-st.result.range) × (shifts_of c.send_symbols-st.result ≤ 65535) × (reserved_of c.send_symbols-st.result ≡ reserved (symbols_of a.configuration (coded_of a.tables.now) (8 * length a.frame.now) a.ne (content_of a.content.now)))
 counted c =
@@ -41,7 +41,7 @@ pub overflow_add-early : goal.overflow_add-early
 overflow_add-early c =
     let a = c.args in
     let p = c.requires in
-    let few = early-few a.configuration a.ne (length a.frame.now) (content_of a.content.now) p.0 p.1 in
+    let few = early-passed a.configuration a.ne (length a.frame.now) (content_of a.content.now) p.0 p.1 in
     let n = counted (goal.at.overflow_add-early c).After-send_symbols-st in
     omega (arith, few, c.put_early-early.ensures.count, c.reserved_bits.ensures, n.2, log-range c.send_symbols-st.result.range n.1 n.0.range-fits)
 

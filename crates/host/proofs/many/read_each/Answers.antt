@@ -10,7 +10,7 @@ use Rattle.common.specs.TableSets.{passed_of}
 use Rattle.frame_reader.specs.Frame.{read_frame}
 use Rattle.frame_reader.specs.Returned.{lines_behind}
 use Rattle.host.specs.Many.{one_if_read, lines_after}
-use Rattle.host.proofs.Frames.{one_more, accepted-turn, accepted-end, lines-turn, lines_end}
+use Rattle.host.proofs.Frames.{one_more, accepted-turn, accepted-rest, lines-turn, lines_rest}
 use Rattle.host.proofs.many.read_each.Goals as goal
 use Rattle.host.proofs.many.read_each.Goals.{Start, In-Some}
 
@@ -55,6 +55,6 @@ returns c =
     let read = read_frame a.configuration (passed_of a.tables.now) (length a.lines.now) in
     let rest = c.loop-frame.frame-iterator.rest.now in
     let few : length rest < a.bytes = omega (arith, c.in-None.ensures.steps.1.0, c.loop-frame.invariant.0) in record {
-      number = omega (arith, accepted-end read a.bytes rest few, c.loop-frame.invariant.3);
-      lent = sym (lines_end read a.bytes rest c.loop-frame.lines few) ∙ c.loop-frame.invariant.4;
+      number = omega (arith, accepted-rest read a.bytes rest few, c.loop-frame.invariant.3);
+      lent = sym (lines_rest read a.bytes rest c.loop-frame.lines few) ∙ c.loop-frame.invariant.4;
     }
