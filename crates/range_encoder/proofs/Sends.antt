@@ -6,7 +6,7 @@ use mathlib.Core.List.{List, ◌++◌}
 use native.Mathlib.Omega.{arith}
 use native.Mathlib.Nat.{add-zero, add_assoc}
 use native.Mathlib.Numerals.{add-one}
-use borrow.Author.Tests.{lt-ltb, eq-eqb, ne_eqb}
+use borrow.Author.Tests.{lt-ltb, le-ltb, eq-eqb, ne_eqb}
 use lib.Dec.{ltb}
 use lib.ListN.{length, length-append, replicate, get_or, set}
 use lib.Seq.{sets}
@@ -18,7 +18,7 @@ use Rattle.range_encoder.specs.Finish.{Ending, ending, ended, pushed, pushed_byt
 use Rattle.range_encoder.specs.Private.{Fits, Sound}
 use Rattle.range_encoder.specs.declared.EncoderState.{EncoderState}
 use Rattle.range_encoder.specs.declared.Finished.{Finished}
-use Rattle.range_encoder.proofs.States.{fits-shifted, out-shifted}
+use Rattle.range_encoder.proofs.States.{fits-shifted, shifts-shifted, out-shifted}
 use Rattle.range_encoder.proofs.Endings.{ending-ended, ending-fits}
 use Rattle.range_encoder.proofs.Finishes.{finish-held, last-bits, pushed-out, pushed-shifts, held-length}
 
@@ -37,10 +37,22 @@ own-more f first second whole s bits some one two last =
 
 -- the finish's shifts
 module _ (s : EncoderState) (bits : ℕ) where
+  -- up to 8 bits: one shift
+  pub push-once : bits ≤ 8 → (shifted s ≡ pushed s bits) × (shift_bytes s ≡ pushed_bytes s bits)
+  push-once most = rw (le-ltb 8 bits most) (refl, refl)
+
   -- a ninth: a second shift, whose bytes lie behind those of the first
   pub push-twice : (f first whole : List ℕ) (t : EncoderState) → 8 < bits → t ≡ shifted s → first ≡ sets f s.out (shift_bytes s) → whole ≡ sets first t.out (shift_bytes t) → (shifted t ≡ pushed s bits) × (whole ≡ sets f s.out (pushed_bytes s bits))
   push-twice f first whole t nine state e laid =
       rw (lt-ltb 8 bits nine, laid, e, state, sets-append f s.out (shift_bytes s) (shift_bytes (shifted s)), out-shifted s) (refl, refl)
+
+  -- S before the first shift is at most S behind the last
+  pub push-least : shifts_of s ≤ shifts_of (pushed s bits)
+  push-least = by-test (ltb 8 bits) (λ e. rw e (omega (arith, shifts-shifted s, shifts-shifted (shifted s)))) (λ e. rw e (omega (arith, shifts-shifted s)))
+
+  -- and so is S before a second
+  pub push-second : 8 < bits → shifts_of (shifted s) ≤ shifts_of (pushed s bits)
+  push-second nine = rw (lt-ltb 8 bits nine) (omega (arith, shifts-shifted (shifted s)))
 
   -- each number fits its place behind them
   fits-pushed : Fits s → Fits (pushed s bits)

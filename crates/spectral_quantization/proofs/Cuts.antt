@@ -65,7 +65,7 @@ held-again false n = ap pos (again n)
 
 -- ---- by the three fields of a pattern
 
--- the size that the code reckons of an exponent's field x and the digits t
+-- the size by bits, of an exponent's field x and the digits t
 abbrev size_of : ℕ → ℕ → ℕ
 size_of x t = (t + 2 ^ 23) * 2 ^ x / 2 ^ 150
 
@@ -78,7 +78,7 @@ at_top true true s v n top rest number = top refl
 at_top true false s v n top rest number = absurd number
 at_top false z s v n top rest number = rest
 
--- the code counts from 2^-150, one bit below the format's smallest value
+-- it counts from 2^-150, one bit below the format's smallest value
 one_more : (d j : ℕ) → d * 2 ^ j / 2 ^ 149 ≡ d * 2 ^ suc j / 2 ^ 150
 one_more d j =
     ap (λ (n : ℕ). n / 2 ^ 149) (sym (shl-shr (d * 2 ^ j) 1))
@@ -124,7 +124,7 @@ bits-cut : (b : ℕ) → T (not (is_nan (of_bits binary32 b)))
 unfolding of_bits
 bits-cut b number = fields-cut (leb (2 ^ 31) b) (b % 2 ^ 23) (mod-lt b (pow_pos 23)) (b % 2 ^ 31 / 2 ^ 23) number
 
--- what the code reckons of a pattern is the value, cut
+-- what the bits of a pattern give is the value, cut
 module _ (v : Float) (fit : T (fits binary32 v)) (number : T (not (is_nan v))) where
   abbrev b : ℕ
   b = to_bits binary32 v

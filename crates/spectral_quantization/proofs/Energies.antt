@@ -1,13 +1,15 @@
 -- What one energy adds, the walk over all of them, and what the target allows, as the code goes. Its constants are given by their
 -- bits, and compute to the definition's. Assumes nothing.
-use mathlib.Core.Path.{◌≡◌, refl, ap}
+use mathlib.Core.Path.{◌≡◌, refl, sym, ap, ◌∙◌}
 use mathlib.Core.Bool.{true, false, not}
 use mathlib.Core.List.{List, [], ◌∷◌}
-use Prim.Native.Nat.{ℕ, ◌^◌, ◌≤◌}
+use Prim.Native.Nat.{ℕ, suc, ◌-◌, ◌^◌, ◌≤◌, ◌<◌}
 use native.Mathlib.Omega.{arith}
 use lib.Dec.{T, le→leb}
 use lib.IntN.{pos}
-use lib.Ieee.{Float, binary32, lt, of_int, in_float}
+use lib.ListN.{length, get_or, drop}
+use lib.Seq.{drop-length, drop-cons}
+use lib.Ieee.{Float, nan, binary32, lt, of_int, in_float}
 use Rattle.std.specs.Prelude.{reverse, fold}
 use Rattle.std.proofs.lemmas.Grind.{reverse_onto, fold-append}
 use Rattle.spectral_quantization.specs.Single.{◌+ᶠ◌, ◌-ᶠ◌, ◌*ᶠ◌, constant}
@@ -51,6 +53,27 @@ module _ (level : Float) where
   unfolding cost_at all_below
   walked_back [] = refl
   walked_back (energy ∷ rest) = rw (reverse_onto rest energy [], fold-append) (ap (cost_with level energy) (walked_back rest))
+
+module _ (level : Float) (energies : List Float) where
+  -- at its start no energy is left behind
+  pub walk_start : record { bits = constant 0 1; zero = true } ≡ cost_of_all level (drop (length energies) energies)
+  unfolding cost_at all_below
+  walk_start = rw (drop-length energies) refl
+
+  -- a turn takes the energy before those that were walked
+  pub walk_turn : (left : ℕ) → 0 < left → left ≤ length energies
+      → cost_with level (get_or energies (left - 1) nan) (cost_of_all level (drop left energies)) ≡ cost_of_all level (drop (left - 1) energies)
+  unfolding cost_at all_below
+  walk_turn left some fits =
+      ap (λ (n : ℕ). cost_with level (get_or energies (left - 1) nan) (cost_of_all level (drop n energies))) back
+      ∙ sym (ap (cost_of_all level) (drop-cons energies (left - 1) nan (omega arith)))
+    where
+      back : left ≡ suc (left - 1)
+      back = omega arith
+
+  -- at its end all were walked
+  pub walk_end : (left : ℕ) → left ≡ 0 → cost_of_all level (drop left energies) ≡ cost_of_all level energies
+  walk_end left h = ap (λ (n : ℕ). cost_of_all level (drop n energies)) h
 
 -- ---- the target
 

@@ -5,6 +5,8 @@ use Rattle.common.specs.Configuration.{frame_lines}
 use Rattle.common.specs.Reply.{Reply, Answer, accepted, given, and_then, outside_limits, wrong_length, tables_fail, wrong_count}
 use Rattle.common.specs.Tables.{Tables, tables_pass}
 use Rattle.common.specs.declared.configuration.Configuration.{Configuration}
+use Rattle.common.specs.declared.configuration.ConfigurationError.{ConfigurationError}
+use Rattle.common.specs.declared.configuration.ConfigurationError.TheVariants.{OutsideLimits as ConfigurationOutside, WrongLength as ConfigurationLength}
 use Rattle.contexts.specs.Contexts.{rate_flag, lookup_start, row_of, magnitudes, escapes, escape_symbol, pair_symbol, context_behind}
 use Rattle.spectral_quantization.specs.declared.estimate.BitConsumption.{BitConsumption}
 use Rattle.spectral_quantization.specs.declared.estimate.EstimateError.{EstimateError}
@@ -134,3 +136,8 @@ reply_of OutsideLimits = outside_limits
 reply_of (WrongLength bytes) = wrong_length bytes
 reply_of TablesFail = tables_fail
 reply_of (WrongCount count) = wrong_count count
+
+-- what each error from below says here
+abbrev pub of_configuration : ConfigurationError → EstimateError
+of_configuration ConfigurationOutside = OutsideLimits
+of_configuration (ConfigurationLength length) = WrongLength length

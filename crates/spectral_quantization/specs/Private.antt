@@ -1,9 +1,5 @@
 -- Not needed to believe anything: what private contracts and proofs here speak by. No public contract cites it.
 use Rattle.std.specs.Prelude.{ℕ, ◌+◌, ◌*◌, ◌≤◌, max, Bool, cond, not, ◌&&◌, List, leb, Float}
-use Rattle.common.specs.declared.configuration.ConfigurationError.{ConfigurationError}
-use Rattle.common.specs.declared.configuration.ConfigurationError.TheVariants.{OutsideLimits as ConfigurationOutside, WrongLength as ConfigurationLength}
-use Rattle.spectral_quantization.specs.declared.estimate.EstimateError.{EstimateError}
-use Rattle.spectral_quantization.specs.declared.estimate.EstimateError.TheVariants.{OutsideLimits, WrongLength}
 use Rattle.contexts.specs.Contexts.{rate_flag, lookup_start, context_behind}
 use Rattle.spectral_quantization.specs.Estimate.{whole_bits, mode_flag, pair_cost, least_bits, is_zero, context_at, least_of, cost_of, kept_of}
 use Rattle.spectral_quantization.specs.Gain.{below, with_energy, all_below, cost_at}
@@ -12,11 +8,6 @@ use Rattle.spectral_quantization.specs.declared.estimate.Running.{Running}
 use Rattle.spectral_quantization.specs.declared.gain.Cost.{Cost}
 
 -- ---- the estimate
-
--- what each error from below says here
-abbrev pub of_configuration : ConfigurationError → EstimateError
-of_configuration ConfigurationOutside = OutsideLimits
-of_configuration (ConfigurationLength length) = WrongLength length
 
 -- what a frame of so many bytes is estimated by
 abbrev pub frame_of : ℕ → ℕ → ℕ → ℕ → Frame

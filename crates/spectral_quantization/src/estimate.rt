@@ -3,9 +3,9 @@ ghost use Rattle.std.specs.Prelude.{◌≡◌, ◌+◌, ◌*◌, ◌≤◌, ◌<
 ghost use Rattle.common.specs.Reply.{answer_by};
 ghost use Rattle.common.specs.TableSets.{set_of};
 ghost use Rattle.contexts.specs.Contexts.{magnitudes, escapes};
-ghost use Rattle.spectral_quantization.specs.Estimate.{whole_bits, tail_cost, sign_cost, symbol_cost, escapes_cost, pair_cost, least_bits, is_zero, zero_at, pairs_of, estimate, reply_of};
+ghost use Rattle.spectral_quantization.specs.Estimate.{whole_bits, tail_cost, sign_cost, symbol_cost, escapes_cost, pair_cost, least_bits, is_zero, zero_at, pairs_of, estimate, reply_of, of_configuration};
 ghost use Rattle.spectral_quantization.specs.Estimate as Estimate;
-ghost use Rattle.spectral_quantization.specs.Private.{of_configuration, frame_of, running_at, on_pair, Bounded};
+ghost use Rattle.spectral_quantization.specs.Private.{frame_of, running_at, on_pair, Bounded};
 ghost use Rattle.spectral_quantization.specs.Private as Private;
 
 use common::configuration::{Configuration, ConfigurationError};

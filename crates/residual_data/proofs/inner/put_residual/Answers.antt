@@ -1,6 +1,6 @@
 -- `inner::put_residual` meets its contract: behind i turns the first i bits of the list are put, and their values are the list's low bits.
 -- Assumes nothing.
-use Rattle.std.proofs.Common.{◌≡◌, ◌<◌, true, sym, refl, arith, length-take, get_or-take}
+use Rattle.std.proofs.Common.{◌≡◌, ◌<◌, min, true, length, sym, refl, arith, length-take, get_or-take}
 use Rattle.sending.proofs.Puts.{put-all-none}
 use Rattle.residual_data.proofs.Puts.{residual-turn, residual-cut}
 use Rattle.residual_data.proofs.inner.put_residual.Goals as goal
@@ -18,5 +18,5 @@ loop-i-preserved c =
 pub returns : goal.returns
 returns c =
     let a = c.args in
-    let e : c.loop-i.i ≡ c.min-n.result = omega (arith, length-take c.min-n.result a.residual.now) in
-    rw (c.loop-i.invariant, e, c.min-n.ensures, residual-cut a.lines.now a.residual.now c.requires.2 a.room) refl
+    let e : c.loop-i.i ≡ min a.room (length a.residual.now) = omega (arith, length-take c.min-n.result a.residual.now, c.min-n.ensures) in
+    rw (c.loop-i.invariant, e, residual-cut a.lines.now a.residual.now c.requires.2 a.room) refl
