@@ -5,3 +5,4 @@ pub mod Answers
 pub mod Unique
 pub mod Steps
 pub mod Roomy
+pub mod Readers

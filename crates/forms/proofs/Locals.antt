@@ -10,7 +10,6 @@ use base.Logic.{ent, sep}
 use base.Fml.{Lft}
 use types.Logic.{Logic, sem}
 use types.Kit.{‵, ◌⊛◌, ◌$◌, ◌∵◌, !, qed, by, move, use1, split, fjoin, frame}
-use denote.RattleType.{RattleType}
 use denote.Laws.{Is}
 use denote.Plain.{uint_row_laws, uint_Makes}
 use denote.Builtin.{u8, u32, usize}
@@ -19,35 +18,23 @@ use denote.Slice.{shr_slice_copy}
 use denote.Steps.{owned, nothing}
 use denote.Enum.Laws as EL
 use denote.Struct.Laws as LL
-use denote.Struct.Laws.{u32-laws, u32-copy}
-use denote.Struct.Field.{u32-field}
-use denote.Param.Shared.{copy_shared}
-use denote.Param.Laws.{of_field, field_told, enum_told, Laws as ParamLaws}
 use denote.Struct.Rest.{own_shut}
 use Rattle.buffer_reader.specs.declared.Cursor.{Cursor}
 use Rattle.buffer_reader.specs.declared.reader.Reader.{Reader}
-use Rattle.forms.proofs.Held.{D, L, Own, Frame, slice}
+use Rattle.forms.proofs.Held.{D, L, Own, Frame, slice, Taken, taken_laws}
 use Rattle.buffer_reader.specs.contracts.Cursor as K
 use Rattle.buffer_reader.proofs.Cursor.TheLaws as K'
 use Rattle.std.specs.declared.result.Result.{Result}
 use Rattle.std.specs.contracts.result.Result as S
-use Rattle.std.proofs.result.Result.TheLaws as S'
 use Rattle.buffer_reader.specs.declared.BufferError.{BufferError}
 use Rattle.buffer_reader.specs.contracts.BufferError as B
-use Rattle.buffer_reader.proofs.BufferError.TheLaws as B'
 use Rattle.forms.specs.declared.inner.Reached.{Reached}
 use Rattle.forms.specs.contracts.inner.Reached as N
 use Rattle.forms.proofs.inner.Reached.TheLaws as N'
 
--- the type of what a read gave, and its laws
-abbrev pub Taken : RattleType
-Taken = S.the_row u32 B.the_row
-
-abbrev pub number_laws : ParamLaws u32
-number_laws = of_field u32-field u32-laws refl (copy_shared u32-field u32-copy)
-
+-- what a read gave, as the machine holds it
 abbrev pub given : Result ℕ BufferError → List Val
-given r = EL.vals (S.the_type u32 B.the_row) (S'.the_laws u32 B.the_row number_laws B'.the_row_laws (field_told u32-field u32-laws) (enum_told B.the_type B'.the_laws)) r
+given r = EL.vals (S.the_type u32 B.the_row) taken_laws r
 
 -- the reader that is made of a frame and a cursor, and what is handed back of it
 abbrev pub reader : Bor (List ℕ) → Cursor → Reader
@@ -65,7 +52,7 @@ at_tail c c-is = (LL.owed K.the_type K'.the_laws c _ c-is).1.0.1
 
 -- what is told of what a read gave, of where the reader stands, and of what is handed back
 pub taken_is : (r : Result ℕ BufferError) (u : Val) → Is Taken r (u ∷ []) → Is Taken r (given r)
-taken_is r u got = subst (Is Taken r) (EL.tells (S.the_type u32 B.the_row) (S'.the_laws u32 B.the_row number_laws B'.the_row_laws (field_told u32-field u32-laws) (enum_told B.the_type B'.the_laws)) r _ got) got
+taken_is r u got = subst (Is Taken r) (EL.tells (S.the_type u32 B.the_row) taken_laws r _ got) got
 
 pub place_is : (p : Cursor) (u : Val) → Is K.the_row p (u ∷ []) → Is K.the_row p (K'.lowered p ∷ [])
 place_is p u got = subst (Is K.the_row p) (LL.tells K.the_type K'.the_laws p _ got) got

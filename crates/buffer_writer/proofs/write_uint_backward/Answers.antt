@@ -1,0 +1,10 @@
+-- `write_uint_backward` meets its contract. The check finds all but the return that writes, which stands on the law that says what is then answered
+-- and left. Assumes nothing.
+use mathlib.Core.Path.{sym, ◌∙◌}
+use Rattle.buffer_writer.proofs.Answers.{field_put}
+use Rattle.buffer_writer.proofs.write_uint_backward.Goals as goal
+
+pub returns : goal.returns
+returns c =
+    let a = c.args in
+    rw c.put_field.ensures (let p = field_put a.buf.now a.at a.val a.num_bits c.if-len-gt65535.false (sym c.listed.ensures ∙ c.if-not-listed.false) (sym c.beyond.ensures ∙ c.if-beyond.false) in record { answer = p.0; lent = p.1 })
