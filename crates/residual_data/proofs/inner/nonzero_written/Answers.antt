@@ -1,7 +1,23 @@
--- `inner::nonzero_written` meets its contract: the library's count is the definition's. Assumes nothing.
-use Rattle.std.proofs.Common.{rules}
-use Rattle.residual_data.proofs.Residuals.{nonzero-counted}
+-- `inner::nonzero_written` meets its contract: one line more counts what the definition says of it.
+-- Assumes nothing.
+use Rattle.std.proofs.Common.{◌≡◌, eqb, get_or, nat_abs, pos, refl, arith, to_z-of_z, w16, SFits}
+use Rattle.common.proofs.Bools.{by-test}
+use Rattle.residual_data.proofs.Residuals.{counts, nonzero-none, nonzero-turn, counts-most}
 use Rattle.residual_data.proofs.inner.nonzero_written.Goals as goal
+use Rattle.residual_data.proofs.inner.nonzero_written.Goals.{After-from-n}
 
-pub returns : goal.returns
-returns c = search (rules, nonzero-counted)
+-- what the line that is counted counts
+told : (c : After-from-n) → c.from-n.result ≡ counts (get_or c.args.lines.now c.loop-line.line-index (pos 0))
+told c =
+    let x = get_or c.args.lines.now c.loop-line.line-index (pos 0) in
+    let fits : SFits w16 x = record { sfits = omega arith } in
+    rw (c.from-n.ensures, c.magnitude.ensures, to_z-of_z fits) (by-test (eqb (nat_abs x) 0) (λ e. rw e refl) (λ e. rw e refl))
+
+pub loop-line-init : goal.loop-line-init
+loop-line-init c = (omega arith, nonzero-none c.args.lines.now)
+
+pub loop-line-preserved : goal.loop-line-preserved
+loop-line-preserved c =
+    let x = get_or c.args.lines.now c.loop-line.line-index (pos 0) in
+    let t = told (goal.at.loop-line-preserved c).After-from-n in
+    (omega (arith, t, counts-most x, c.loop-line.invariant.0), rw (t, c.loop-line.invariant.1, nonzero-turn c.args.lines.now c.loop-line.line-index (omega arith)) refl)
