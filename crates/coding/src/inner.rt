@@ -44,6 +44,8 @@ pub fn start(buf: &[u8], at: Cursor) -> Result<(DecoderState, Cursor), Refusal>
 }
 
 // A symbol by a row of a part of the table set. Where the row begins is the caller's to reckon, who knows the width as a number.
+// Inlined, so that what it gives need not go through memory, where a result's parts overlap those of a refusal.
+#[inline(always)]
 pub fn symbol(
     state: DecoderState,
     buf: &[u8],

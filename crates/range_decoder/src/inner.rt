@@ -42,7 +42,8 @@ fn append_twice(
     append(once, buf, next)
 }
 
-// The symbol step on a state, a buffer and a row that the caller has judged.
+// The symbol step on a state, a buffer and a row that the caller has judged. Inlined with the symbol that it is of.
+#[inline(always)]
 pub fn ac_decode(
     state: DecoderState,
     buf: &[u8],

@@ -1,7 +1,8 @@
 -- The residual list, one line and one bit at a time: a line that is not 0 counts one, and while there is room it takes the next bit.
 -- Assumes nothing.
-use Rattle.std.proofs.Common.{◌≡◌, ℕ, zero, suc, ◌+◌, ◌<◌, ◌≤◌, min, cond, eqb, List, [], ◌∷◌, ◌++◌, length, get_or, drop, set, ℤ, nat_abs, refl, ap, ◌∙◌, append_assoc, add-zero, add-one, arith, drop-cons, take, pos, take-suc}
+use Rattle.std.proofs.Common.{◌≡◌, ℕ, zero, suc, ◌+◌, ◌<◌, ◌≤◌, min, cond, eqb, List, [], ◌∷◌, ◌++◌, length, get_or, drop, set, ℤ, nat_abs, refl, ap, ◌∙◌, append_assoc, add-zero, zero-add, not, count_by, add-one, arith, drop-cons, take, pos, take-suc}
 use lib.Seq.{set_at}
+use Rattle.std.proofs.lemmas.List.Recursion.{is_count_by}
 use Rattle.common.proofs.Bools.{by-test}
 use Rattle.buffer_reader.specs.Tail.{tail_bit}
 use Rattle.buffer_reader.proofs.Tails.{bit-lt}
@@ -13,6 +14,11 @@ counts x = cond (eqb (nat_abs x) 0) 0 1
 
 pub counts-most : (x : ℤ) → counts x ≤ 1
 counts-most x = by-test (eqb (nat_abs x) 0) (λ e. rw e (omega arith)) (λ e. rw e (omega arith))
+
+-- as the library counts
+pub nonzero-counted : (xs : List ℤ) → nonzero xs ≡ count_by (λ x. not (eqb (nat_abs x) 0)) xs
+unfolding nonzero
+nonzero-counted xs = is_count_by nonzero (λ x. not (eqb (nat_abs x) 0)) refl (λ y ys. by-test (eqb (nat_abs y) 0) (λ e. rw (e, zero-add) refl) (λ e. rw e refl)) xs
 
 pub nonzero-none : (lines : List ℤ) → 0 ≡ nonzero (take 0 lines)
 unfolding nonzero
