@@ -1,6 +1,7 @@
 pub mod Magnitudes
 pub mod Data
 pub mod Shown
+pub mod Copies
 pub mod Coded
 pub mod Whole
 pub mod Unique

@@ -1,6 +1,6 @@
 -- Frames one behind the other: one turn of the loop that reads them, its end, and that where each is refused nothing comes of them.
 -- Assumes nothing.
-use Prim.Native.Nat.{ℕ, zero, suc, ◌+◌, ◌*◌, ◌/◌, ◌≤◌, ◌<◌}
+use Prim.Native.Nat.{ℕ, zero, suc, ◌+◌, ◌-◌, ◌*◌, ◌/◌, ◌≤◌, ◌<◌}
 use mathlib.Core.Path.{◌≡◌, refl, sym, ap, ◌∙◌}
 use mathlib.Core.Bool.{true, false}
 use mathlib.Core.List.{List, ◌++◌}
@@ -10,7 +10,7 @@ use native.Mathlib.Numerals.{add-one}
 use Rattle.std.proofs.Math.Nat.{add-div_left}
 use Rattle.std.proofs.Common.{length-append}
 use lib.ListN.{length, take, drop, length-drop}
-use lib.Seq.{length-take-le, take-append_seam, drop-append_seam}
+use lib.Seq.{length-take-le, drop-drop, take-append_seam, drop-append_seam}
 use lib.Dec.{ltb}
 use lib.IntN.{ℤ}
 use mir.Val.{bool_byte}
@@ -21,6 +21,7 @@ use Rattle.common.specs.Configuration.{frame_lines, reply_of}
 use Rattle.common.specs.Tables.{Tables, tables_pass}
 use Rattle.common.specs.declared.configuration.Configuration.{Configuration}
 use Rattle.common.specs.declared.configuration.ConfigurationError.{ConfigurationError}
+use Rattle.common.proofs.Rows.{next_row}
 use Rattle.frame_reader.specs.Frame.{Frame, read_frame}
 use Rattle.frame_reader.specs.Returned.{lines_behind, told}
 use Rattle.frame_reader.proofs.Whole.{lines-refused, tables-refused, count-refused}
@@ -35,7 +36,31 @@ pub read_told : (reading : ℕ) (a : Answer Frame) → one_if_read (told reading
 read_told reading (accepted fr) = refl
 read_told reading (refused r) = refl
 
+-- a part that begins at a place and ends a frame's length behind it has a frame's length
+pub part_length : (at bytes : ℕ) (f : List ℕ) → at + bytes ≤ length f → length (take (at + bytes - at) (drop at f)) ≡ bytes
+part_length at bytes f h =
+    rw (next_row at bytes f) (length-take-le bytes (drop at f) (omega (arith, length-drop at f)))
+
 module _ (read : List ℕ → Answer Frame) (bytes : ℕ) where
+  -- one of those that are left, and the others
+  accepted-turn : (left : ℕ) (f : List ℕ) → 0 < left → accepted_of read left bytes f ≡ one_if_read (read (take bytes f)) + accepted_of read (left - 1) bytes (drop bytes f)
+  unfolding accepted_of
+  accepted-turn zero f h = absurd (omega arith)
+  accepted-turn (suc n) f h = let e : suc n - 1 ≡ n = omega arith in rw e refl
+
+  lines-turn : (left : ℕ) (f : List ℕ) (before : List ℤ) → 0 < left → lines_after read left bytes f before ≡ lines_after read (left - 1) bytes (drop bytes f) (lines_behind (read (take bytes f)) before)
+  unfolding lines_after
+  lines-turn zero f before h = absurd (omega arith)
+  lines-turn (suc n) f before h = let e : suc n - 1 ≡ n = omega arith in rw e refl
+
+  -- from a place on, by what is read of the frame there
+  module _ (left at : ℕ) (f : List ℕ) (h : 0 < left) where
+    pub accepted-next : (one : ℕ) → one ≡ one_if_read (read (take (at + bytes - at) (drop at f))) → accepted_of read left bytes (drop at f) ≡ one + accepted_of read (left - 1) bytes (drop (at + bytes) f)
+    accepted-next one e = rw (accepted-turn left (drop at f) h, ← next_row at bytes f, ← e, drop-drop) refl
+
+    pub lines_next : (before behind : List ℤ) → behind ≡ lines_behind (read (take (at + bytes - at) (drop at f))) before → lines_after read left bytes (drop at f) before ≡ lines_after read (left - 1) bytes (drop (at + bytes) f) behind
+    lines_next before behind e = rw (lines-turn left (drop at f) before h, ← next_row at bytes f, ← e, drop-drop) refl
+
   -- a part of a frame's length is one of those that fit
   pub one_more : (x rest : List ℕ) → 0 < bytes → length x ≡ bytes → length (x ++ rest) / bytes ≡ suc (length rest / bytes)
   one_more x rest some l = rw (length-append, l, add-div_left (length rest) some, add-one) refl
@@ -48,19 +73,17 @@ module _ (read : List ℕ → Answer Frame) (bytes : ℕ) where
     others : drop bytes (x ++ rest) ≡ rest
     others = rw (← l) (drop-append_seam x rest)
 
-    pub accepted-turn : accepted_of read (length (x ++ rest) / bytes) bytes (x ++ rest) ≡ one_if_read (read x) + accepted_of read (length rest / bytes) bytes rest
-    unfolding accepted_of
-    accepted-turn =
-        rw (one_more x rest some l)
-        (ap (λ (f : List ℕ). one_if_read (read f) + accepted_of read (length rest / bytes) bytes (drop bytes (x ++ rest))) first
-        ∙ ap (λ (f : List ℕ). one_if_read (read x) + accepted_of read (length rest / bytes) bytes f) others)
+    -- without it there are left as many as fit into the rest
+    fewer : suc (length rest / bytes) - 1 ≡ length rest / bytes
+    fewer = omega arith
 
-    pub lines-turn : (before : List ℤ) → lines_after read (length (x ++ rest) / bytes) bytes (x ++ rest) before ≡ lines_after read (length rest / bytes) bytes rest (lines_behind (read x) before)
-    unfolding lines_after
-    lines-turn before =
-        rw (one_more x rest some l)
-        (ap (λ (f : List ℕ). lines_after read (length rest / bytes) bytes (drop bytes (x ++ rest)) (lines_behind (read f) before)) first
-        ∙ ap (λ (f : List ℕ). lines_after read (length rest / bytes) bytes f (lines_behind (read x) before)) others)
+    pub accepted-more : accepted_of read (length (x ++ rest) / bytes) bytes (x ++ rest) ≡ one_if_read (read x) + accepted_of read (length rest / bytes) bytes rest
+    accepted-more =
+        rw (one_more x rest some l, accepted-turn (suc (length rest / bytes)) (x ++ rest) (omega arith), fewer, first, others) refl
+
+    pub lines_more : (before : List ℤ) → lines_after read (length (x ++ rest) / bytes) bytes (x ++ rest) before ≡ lines_after read (length rest / bytes) bytes rest (lines_behind (read x) before)
+    lines_more before =
+        rw (one_more x rest some l, lines-turn (suc (length rest / bytes)) (x ++ rest) before (omega arith), fewer, first, others) refl
 
   -- no part of a frame's length is left
   none_left : (f : List ℕ) → length f < bytes → length f / bytes ≡ 0

@@ -10,7 +10,7 @@ use Rattle.common.specs.TableSets.{passed_of}
 use Rattle.frame_reader.specs.Frame.{read_frame}
 use Rattle.frame_reader.specs.Returned.{lines_behind}
 use Rattle.host.specs.Many.{one_if_read, lines_after}
-use Rattle.host.proofs.Frames.{one_more, accepted-turn, accepted-rest, lines-turn, lines_rest}
+use Rattle.host.proofs.Frames.{one_more, accepted-more, accepted-rest, lines_more, lines_rest}
 use Rattle.host.proofs.many.read_each.Goals as goal
 use Rattle.host.proofs.many.read_each.Goals.{Start, In-Some}
 
@@ -40,8 +40,8 @@ loop-frame-preserved c =
     let n = some (goal.at.In-Some i).Start in
     let number = c.read_one-read.ensures.number ∙ ap (λ (n : ℕ). one_if_read (each n x)) c.loop-frame.invariant.1 in
     let lent = c.read_one-read.ensures.lent ∙ ap (λ (n : ℕ). lines_behind (each n x) c.loop-frame.lines) c.loop-frame.invariant.1 in
-    let turned = rw (← p.1) at (accepted-turn read a.bytes x rest n p.0) in
-    let lined = rw (← p.1) at (lines-turn read a.bytes x rest n p.0 c.loop-frame.lines) in (
+    let turned = rw (← p.1) at (accepted-more read a.bytes x rest n p.0) in
+    let lined = rw (← p.1) at (lines_more read a.bytes x rest n p.0 c.loop-frame.lines) in (
       c.in-Some.ensures.steps.0 ∙ c.loop-frame.invariant.0,
       omega arith,
       omega (arith, left_more i, c.read_one-read.ensures.low, c.loop-frame.invariant.2),
