@@ -1,4 +1,5 @@
--- `write_bool_backward` meets its contract. The check finds all but the refusal for want of room, which stands on the law that says it. Assumes nothing.
+-- `write_bool_backward` meets its contract: the checks are the definition's, and behind them the bit is put at the tail's place.
+-- The check finds every return; the refusal for want of room is given here by the law that says it. Assumes nothing.
 use mathlib.Core.Path.{sym, ◌∙◌}
 use Rattle.buffer_writer.proofs.Answers.{bit-beyond}
 use Rattle.buffer_writer.proofs.write_bool_backward.Goals as goal

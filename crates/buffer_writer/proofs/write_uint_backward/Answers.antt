@@ -1,5 +1,5 @@
--- `write_uint_backward` meets its contract. The check finds all but the return that writes, which stands on the law that says what is then answered
--- and left. Assumes nothing.
+-- `write_uint_backward` meets its contract: the checks are the definition's, and behind them the field is put at the tail's place.
+-- The check finds every return; the one that writes is given here by the law that says it. Assumes nothing.
 use mathlib.Core.Path.{sym, ◌∙◌}
 use Rattle.buffer_writer.proofs.Answers.{field_put}
 use Rattle.buffer_writer.proofs.write_uint_backward.Goals as goal

@@ -1,4 +1,5 @@
--- `Cursor::take_bits` meets its contract. The check finds all but the refusal for want of room, which stands on the law that says it. Assumes nothing.
+-- `Cursor::take_bits` meets its contract: the checks are the definition's, in its order, and behind them the field at the tail is read.
+-- The check finds every return; the refusal for want of room is given here by the law that says it. Assumes nothing.
 use Prim.Native.Nat.{ℕ, ◌+◌, ◌/◌}
 use mathlib.Core.Path.{◌≡◌, sym, ap, ◌∙◌}
 use mathlib.Core.Bool.{true}
