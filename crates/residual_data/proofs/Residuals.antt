@@ -2,6 +2,7 @@
 -- Assumes nothing.
 use Rattle.std.proofs.Common.{◌≡◌, ℕ, zero, suc, ◌+◌, ◌<◌, ◌≤◌, min, cond, eqb, List, [], ◌∷◌, ◌++◌, length, get_or, drop, set, ℤ, nat_abs, refl, ap, ◌∙◌, append_assoc, add-zero, zero-add, not, count_by, add-one, arith, drop-cons, take, pos, take-suc}
 use lib.Seq.{set_at}
+use mir.Val.{bool_byte}
 use Rattle.std.proofs.lemmas.List.Recursion.{is_count_by}
 use Rattle.common.proofs.Bools.{by-test}
 use Rattle.buffer_reader.specs.Tail.{tail_bit}
@@ -14,6 +15,10 @@ counts x = cond (eqb (nat_abs x) 0) 0 1
 
 pub counts-most : (x : ℤ) → counts x ≤ 1
 counts-most x = by-test (eqb (nat_abs x) 0) (λ e. rw e (omega arith)) (λ e. rw e (omega arith))
+
+-- as the code counts, by the test that its magnitude is not 0
+pub tested-counts : (x : ℤ) → bool_byte (not (eqb (nat_abs x) 0)) ≡ counts x
+tested-counts x = by-test (eqb (nat_abs x) 0) (λ e. rw e refl) (λ e. rw e refl)
 
 -- as the library counts
 pub nonzero-counted : (xs : List ℤ) → nonzero xs ≡ count_by (λ x. not (eqb (nat_abs x) 0)) xs

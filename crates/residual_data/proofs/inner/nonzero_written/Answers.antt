@@ -1,8 +1,7 @@
 -- `inner::nonzero_written` meets its contract: one line more counts what the definition says of it.
 -- Assumes nothing.
-use Rattle.std.proofs.Common.{◌≡◌, eqb, get_or, nat_abs, pos, refl, arith, to_z-of_z, w16, SFits}
-use Rattle.common.proofs.Bools.{by-test}
-use Rattle.residual_data.proofs.Residuals.{counts, nonzero-none, nonzero-turn, counts-most}
+use Rattle.std.proofs.Common.{◌≡◌, get_or, pos, refl, arith, to_z-of_z, w16, SFits}
+use Rattle.residual_data.proofs.Residuals.{counts, tested-counts, nonzero-none, nonzero-turn, counts-most}
 use Rattle.residual_data.proofs.inner.nonzero_written.Goals as goal
 use Rattle.residual_data.proofs.inner.nonzero_written.Goals.{After-from-n}
 
@@ -11,7 +10,7 @@ told : (c : After-from-n) → c.from-n.result ≡ counts (get_or c.args.lines.no
 told c =
     let x = get_or c.args.lines.now c.loop-line.line-index (pos 0) in
     let fits : SFits w16 x = record { sfits = omega arith } in
-    rw (c.from-n.ensures, c.magnitude.ensures, to_z-of_z fits) (by-test (eqb (nat_abs x) 0) (λ e. rw e refl) (λ e. rw e refl))
+    rw (c.from-n.ensures, c.magnitude.ensures, to_z-of_z fits) (tested-counts x)
 
 pub loop-line-init : goal.loop-line-init
 loop-line-init c = (omega arith, nonzero-none c.args.lines.now)
